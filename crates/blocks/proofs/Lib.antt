@@ -1,0 +1,8 @@
+-- What the proofs of several functions use, and the theorems on the definitions.
+pub mod Booleans
+pub mod Floors
+pub mod Orders
+pub mod Checks
+pub mod Tables
+pub mod Slots
+pub mod Referents

@@ -1,0 +1,149 @@
+-- The referent by an undamaged table: an aligned block round the address, all of whose slots have its order, and the referent of each of its addresses.
+use Prim.Native.Nat.{ℕ, zero, suc, _+_, _-_, _*_, _/_, _%_, _^_, _≤_, _<_}
+use mathlib.Core.Bool.{Bool, true, false, cond, _&&_}
+use mathlib.Core.List.{List}
+use mathlib.Core.Path.{_≡_, refl, sym, _∙_, ap, subst}
+use native.Mathlib.Nat.{add-sub-of-le}
+use native.Mathlib.Omega.{arith}
+use borrow.Author.Tests.{le-leb, lt-leb, lt-ltb, le-ltb, leb-true, ltb-true}
+use lib.Dec.{leb, ltb}
+use lib.IntN.{ℤ, pos, negsuc, subℕ}
+use lib.ListN.{length, getD}
+use Rattle.blocks.specs.Blocks.{base, floor, Block, holds, Aligned}
+use Rattle.blocks.specs.Tables.{damagedBy, blockRound, referentIn}
+use Rattle.blocks.specs.Pointers.{marked, address, sought, referentAt}
+use Rattle.blocks.specs.Seeking.{fromZero}
+use Rattle.blocks.specs.declared.Referent.{Referent}
+use Rattle.blocks.specs.declared.Referent.the-variants.{Missing, Found}
+use Rattle.blocks.proofs.Booleans.{and-left, and-right, and-both}
+use Rattle.blocks.proofs.Floors.{floor-le, lt-floor, floor-same, floor-end, pow-split}
+use Rattle.blocks.proofs.Slots.{slotOf, slot-start, InSlots, floor-slots, Slots, aligned-by, held-slots}
+use Rattle.blocks.proofs.Tables.{Whole, undamaged-whole}
+
+pub round-some : (e q : ℕ) → (e ≡ 0 → ⊥) → blockRound e q ≡ Found (base + floor e (q - base)) e
+round-some zero q n = absurd (n refl)
+round-some (suc e) q n = refl
+
+-- the referent of q by the table s, from q's place and the entry of its slot
+module _ (t : ℕ) (s : List ℕ) (q : ℕ) where
+  pub referent-below : q < base → referentIn t s q ≡ Missing
+  unfolding referentIn
+  referent-below l = rw (lt-leb base q l)
+
+  pub referent-past : base ≤ q → length s ≤ slotOf t q → referentIn t s q ≡ Missing
+  unfolding referentIn
+  referent-past l k = rw (le-leb base q l, le-ltb (slotOf t q) (length s) k)
+
+  pub referent-entry : base ≤ q → slotOf t q < length s → referentIn t s q ≡ blockRound (getD s (slotOf t q) 0) q
+  unfolding referentIn
+  referent-entry l k = rw (le-leb base q l, lt-ltb (slotOf t q) (length s) k)
+
+-- q is in the arena, and the table has the order e in q's slot, whose aligned block of order e begins at b
+record Entered (t : ℕ) (s : List ℕ) (q b e : ℕ) : Type 0 where
+  past : base ≤ q
+  slot : slotOf t q < length s
+  entry : getD s (slotOf t q) 0 ≡ e
+  taken : e ≡ 0 → ⊥
+  rounded : b ≡ base + floor e (q - base)
+
+entered : (t : ℕ) (s : List ℕ) (q b e : ℕ) → referentIn t s q ≡ Found b e → Entered t s q b e
+unfolding referentIn
+entered t s q b e h = go (leb base q && ltb (slotOf t q) (length s)) refl h
+  where
+    some : (x : ℕ) → getD s (slotOf t q) 0 ≡ x → blockRound x q ≡ Found b e → base ≤ q → slotOf t q < length s → Entered t s q b e
+    some zero g k l u = let z : _≡_ {A = ℕ} 0 1 = cc in absurd (omega arith)
+    some (suc x) g k l u =
+        let y : suc x ≡ e = cc in
+        let z : base + floor (suc x) (q - base) ≡ b = cc in
+        record { past = l; slot = u; entry = g ∙ y; taken = λ n. omega arith; rounded = sym z ∙ ap (λ (i : ℕ). base + floor i (q - base)) y }
+
+    go : (c : Bool) → leb base q && ltb (slotOf t q) (length s) ≡ c → cond c (blockRound (getD s (slotOf t q) 0) q) Missing ≡ Found b e → Entered t s q b e
+    go true c k = some (getD s (slotOf t q) 0) refl k (leb-true base q (and-left _ _ c)) (ltb-true _ _ (and-right (leb base q) _ c))
+    go false c k = let z : _≡_ {A = ℕ} 0 1 = cc in absurd (omega arith)
+
+-- the block of order e at b is aligned and holds q; each of its slots has the entry e, and each of its addresses the same referent
+pub record ReferentBlock (t m : ℕ) (s : List ℕ) (q b e : ℕ) : Type 0 where
+  pub aligned : Aligned t m (record { start = b; order = e })
+  pub low : b ≤ q
+  pub high : q < b + 2 ^ e
+  pub entries : (i : ℕ) → b ≤ base + i * 2 ^ t → base + i * 2 ^ t < b + 2 ^ e → getD s i 0 ≡ e
+  pub same : (r : ℕ) → b ≤ r → r < b + 2 ^ e → referentIn t s r ≡ Found b e
+
+module _ (t m : ℕ) (s : List ℕ) (len : length s ≡ 2 ^ (m - t)) (good : damagedBy t m s ≡ false) (q b e : ℕ) (h : referentIn t s q ≡ Found b e) where
+  at-entry : Entered t s q b e
+  at-entry = entered t s q b e h
+
+  whole : Whole t m s (slotOf t q) e
+  whole = undamaged-whole t m s good (slotOf t q) e (at-entry .slot) (at-entry .entry) (at-entry .taken)
+
+  start-is : b ≡ base + floor (e - t) (slotOf t q) * 2 ^ t
+  start-is = at-entry .rounded ∙ ap (λ (x : ℕ). base + x) (floor-slots t e (q - base) (whole .low))
+
+  ends : floor (e - t) (slotOf t q) + 2 ^ (e - t) ≤ 2 ^ (m - t)
+  ends = floor-end (e - t) (m - t) (slotOf t q) (omega (arith, whole .low, whole .high)) (rw len at (at-entry .slot))
+
+  block-aligned : Aligned t m (record { start = b; order = e })
+  unfolding floor
+  block-aligned =
+      subst (λ (x : ℕ). Aligned t m (record { start = x; order = e })) (sym start-is)
+      (aligned-by t m (floor (e - t) (slotOf t q)) e (slotOf t q / 2 ^ (e - t)) (whole .low) (whole .high) refl ends)
+
+  slots : Slots t m (record { start = b; order = e })
+  unfolding floor
+  slots =
+      record {
+        first = floor (e - t) (slotOf t q);
+        start = start-is;
+        size = pow-split t e (whole .low);
+        within = ends;
+        index = slotOf t q / 2 ^ (e - t);
+        multiple = refl;
+      }
+
+  in-slots : (r : ℕ) → b ≤ r → r < b + 2 ^ e → InSlots t (floor (e - t) (slotOf t q)) (2 ^ (e - t)) r
+  unfolding slots
+  in-slots r lo hi = held-slots t m _ slots r (and-both (le-leb b r lo) (lt-ltb r (b + 2 ^ e) hi))
+
+  pub referent-block : ReferentBlock t m s q b e
+  referent-block =
+      let p : base ≤ q = at-entry .past in
+      let f : b ≡ base + floor e (q - base) = at-entry .rounded in
+      record {
+        aligned = block-aligned;
+        low = omega (arith, floor-le e (q - base));
+        high = omega (arith, lt-floor e (q - base));
+        entries = λ i lo hi. let z = in-slots (base + i * 2 ^ t) lo hi in
+            subst (λ (x : ℕ). getD s x 0 ≡ e) (slot-start t i) (whole .entries (slotOf t (base + i * 2 ^ t)) (z .low) (z .high));
+        same = λ r lo hi. let z = in-slots r lo hi in
+            referent-entry t s r (z .past) (omega (arith, z .high, ends, len))
+            ∙ ap (λ (x : ℕ). blockRound x r) (whole .entries (slotOf t r) (z .low) (z .high))
+            ∙ round-some e r (at-entry .taken)
+            ∙ ap (λ (x : ℕ). Found x e) (ap (λ (x : ℕ). base + x) (floor-same e (q - base) (r - base) (omega arith) (omega arith)) ∙ sym f);
+      }
+
+-- the address at which the referent of p is sought
+module _ (t p : ℕ) where
+  pub sought-plain : marked p ≡ false → sought t p ≡ pos (address p)
+  unfolding sought
+  sought-plain h = rw h
+
+  module _ (h : marked p ≡ true) where
+    sought-marked : sought t p ≡ cond (ltb (address p % 2 ^ t) (2 ^ (t - 1))) (subℕ (address p) (2 ^ t)) (pos (address p + 2 ^ t))
+    unfolding sought
+    sought-marked = rw h
+
+    pub sought-up : 2 ^ (t - 1) ≤ address p % 2 ^ t → sought t p ≡ pos (address p + 2 ^ t)
+    sought-up l = sought-marked ∙ rw (le-ltb (address p % 2 ^ t) (2 ^ (t - 1)) l)
+
+    module _ (l : address p % 2 ^ t < 2 ^ (t - 1)) where
+      pub sought-down : 2 ^ t ≤ address p → sought t p ≡ pos (address p - 2 ^ t)
+      sought-down k = sought-marked ∙ rw (lt-ltb (address p % 2 ^ t) (2 ^ (t - 1)) l, le-ltb (address p) (2 ^ t) k)
+
+      pub sought-negative : address p < 2 ^ t → sought t p ≡ negsuc (2 ^ t - suc (address p))
+      sought-negative k = sought-marked ∙ rw (lt-ltb (address p % 2 ^ t) (2 ^ (t - 1)) l, lt-ltb (address p) (2 ^ t) k)
+
+-- a table has no referent at address 0, so an exact address below 0 may be told by it
+pub referent-from-zero : (t : ℕ) (s : List ℕ) (z : ℤ) → referentIn t s (fromZero z) ≡ referentAt (referentIn t s) z
+unfolding referentIn
+referent-from-zero t s (pos q) = refl
+referent-from-zero t s (negsuc n) = refl

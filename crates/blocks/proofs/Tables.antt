@@ -1,0 +1,104 @@
+-- Damaged and undamaged tables, slot by slot, for slots of 2 ^ t bytes.
+use Prim.Native.Nat.{ℕ, zero, suc, _+_, _-_, _^_, _≤_, _<_}
+use mathlib.Core.Bool.{Bool, true, false, not, _&&_, _||_, true≢false}
+use mathlib.Core.List.{List}
+use mathlib.Core.Logic.{_⊎_, inl, inr, ⊎-elim}
+use mathlib.Core.Path.{_≡_, refl, sym, _∙_, ap, subst}
+use native.Mathlib.Nat.{not-suc-le-zero, eq-or-lt-of-le, le-of-suc-le-suc, add-sub-of-le, le-refl}
+use native.Mathlib.Omega.{arith}
+use borrow.Author.Tests.{le-leb, lt-leb, eq-eqb, ne-eqb, leb-true, eqb-true, not-false}
+use lib.Dec.{leb, eqb}
+use lib.ListN.{length, getD}
+use Rattle.blocks.specs.Blocks.{floor}
+use Rattle.blocks.specs.Tables.{any, torn, bad, damagedBy}
+use Rattle.blocks.proofs.Booleans.{and-left, and-right, or-right, or-false-left, or-false-right}
+use Rattle.blocks.proofs.Floors.{floor-same}
+
+module _ (test : ℕ → Bool) where
+  pub any-true : (n k : ℕ) → k < n → test k ≡ true → any n test ≡ true
+  unfolding any
+  any-true zero k h e = absurd (not-suc-le-zero h)
+  any-true (suc n) k h e =
+      ⊎-elim
+      (λ q. let p : test n ≡ true = ap test (sym q) ∙ e in rw p)
+      (λ l. or-right (test n) (any-true n k l e))
+      (eq-or-lt-of-le (le-of-suc-le-suc h))
+
+  pub any-false : (n : ℕ) → ((k : ℕ) → k < n → test k ≡ false) → any n test ≡ false
+  unfolding any
+  any-false zero h = refl
+  any-false (suc n) h = rw (h n (le-refl _), any-false n (λ k l. h k (omega arith)))
+
+  -- where none passes, none of them does
+  pub none-passes : (n k : ℕ) → any n test ≡ false → k < n → test k ≡ false
+  none-passes n k a l = go (test k) refl
+    where
+      go : (b : Bool) → test k ≡ b → b ≡ false
+      go true e = absurd (true≢false (sym (any-true n k l e) ∙ a))
+      go false e = refl
+
+-- the aligned range round slot i has the entry e in each slot, and e is an order
+pub record Whole (t m : ℕ) (s : List ℕ) (i e : ℕ) : Type 0 where
+  pub low : t ≤ e
+  pub high : e ≤ m
+  pub entries : (k : ℕ) → floor (e - t) i ≤ k → k < floor (e - t) i + 2 ^ (e - t) → getD s k 0 ≡ e
+
+module _ (t m : ℕ) (s : List ℕ) where
+  -- slot i is good
+  abbrev pub Good : ℕ → Type 0
+  Good i = bad t m s i (getD s i 0) ≡ false
+
+  pub damaged-at : (i e : ℕ) → i < length s → e ≡ getD s i 0 → bad t m s i e ≡ true → damagedBy t m s ≡ true
+  unfolding damagedBy
+  damaged-at i e h q b = any-true (λ i. bad t m s i (getD s i 0)) (length s) i h (rw q at b)
+
+  pub undamaged : ((i : ℕ) → i < length s → Good i) → damagedBy t m s ≡ false
+  unfolding damagedBy
+  undamaged h = any-false (λ i. bad t m s i (getD s i 0)) (length s) h
+
+  pub undamaged-at : damagedBy t m s ≡ false → (i : ℕ) → i < length s → Good i
+  unfolding damagedBy
+  undamaged-at h i l = none-passes (λ i. bad t m s i (getD s i 0)) (length s) i h l
+
+  pub free-good : (i : ℕ) → getD s i 0 ≡ 0 → Good i
+  unfolding bad
+  free-good i e = rw (eq-eqb _ _ e)
+
+  pub low-bad : (i e : ℕ) → (e ≡ 0 → ⊥) → e < t → bad t m s i e ≡ true
+  unfolding bad
+  low-bad i e n h = rw (ne-eqb e 0 n, lt-leb t e h)
+
+  pub high-bad : (i e : ℕ) → (e ≡ 0 → ⊥) → t ≤ e → m < e → bad t m s i e ≡ true
+  unfolding bad
+  high-bad i e n h l = rw (ne-eqb e 0 n, le-leb t e h, lt-leb e m l)
+
+  -- in the block of slot i, whose entry is e, slot k has another
+  pub torn-bad : (i e k : ℕ) → (e ≡ 0 → ⊥) → t ≤ e → e ≤ m → floor (e - t) i ≤ k → k < floor (e - t) i + 2 ^ (e - t)
+      → (getD s k 0 ≡ e → ⊥) → bad t m s i e ≡ true
+  unfolding bad torn
+  torn-bad i e k n h l lo hi d = rw (ne-eqb e 0 n, le-leb t e h, le-leb e m l)
+      (any-true _ (2 ^ (e - t)) (k - floor (e - t) i) (omega arith)
+      (rw (add-sub-of-le lo, ne-eqb _ _ d)))
+
+  -- where the range round slot i is whole, each of its slots is good
+  pub whole-good : (i e : ℕ) → (e ≡ 0 → ⊥) → Whole t m s i e → (j : ℕ) → floor (e - t) i ≤ j → j < floor (e - t) i + 2 ^ (e - t) → Good j
+  unfolding bad torn
+  whole-good i e n w j lo hi = rw (w .entries j lo hi, ne-eqb e 0 n, le-leb t e (w .low), le-leb e m (w .high))
+      (any-false _ (2 ^ (e - t)) (λ k lt. rw (floor-same (e - t) i j lo hi, eq-eqb _ _ (w .entries (floor (e - t) i + k) (omega arith) (omega arith)))))
+
+  -- and where a taken slot is good, the range round it is whole
+  pub good-whole : (i e : ℕ) → (e ≡ 0 → ⊥) → bad t m s i e ≡ false → Whole t m s i e
+  unfolding bad torn
+  good-whole i e n g =
+      let b : not (leb t e && leb e m) || torn t s i e ≡ false = rw (ne-eqb e 0 n) at g in
+      let o : leb t e && leb e m ≡ true = not-false _ (or-false-left _ _ b) in
+      record {
+        low = leb-true t e (and-left _ _ o);
+        high = leb-true e m (and-right (leb t e) _ o);
+        entries = λ k lo hi.
+            let z = none-passes _ (2 ^ (e - t)) (k - floor (e - t) i) (or-false-right (not (leb t e && leb e m)) _ b) (omega arith) in
+            eqb-true _ _ (not-false _ (rw (add-sub-of-le lo) at z));
+      }
+
+  pub undamaged-whole : damagedBy t m s ≡ false → (i e : ℕ) → i < length s → getD s i 0 ≡ e → (e ≡ 0 → ⊥) → Whole t m s i e
+  undamaged-whole h i e l q n = good-whole i e n (subst (λ (x : ℕ). bad t m s i x ≡ false) q (undamaged-at h i l))

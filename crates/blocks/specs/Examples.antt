@@ -1,0 +1,93 @@
+-- The definitions on small tables: an arena of 64 bytes, 4 slots of 16.
+use mathlib.Core.Bool.{true, false}
+use mathlib.Core.List.{List, [], _∷_}
+use mathlib.Core.Path.{_≡_, refl}
+use Prim.Native.Nat.{ℕ}
+use lib.IntN.{pos, negsuc}
+use Rattle.blocks.specs.Blocks.{Block, floor}
+use Rattle.blocks.specs.Tables.{any, torn, bad, damagedBy, freeIn, referentIn}
+use Rattle.blocks.specs.Sets.{referentOf, entriesFrom, tableOf, blocksFrom, blocksOf}
+use Rattle.blocks.specs.Pointers.{sought, signed, exactSum, checkBits}
+use Rattle.blocks.specs.Orders.{orderOf, neededOrder}
+use Rattle.blocks.specs.Placing.{allFree, rangeStart, freeRange, maximal, lowest, atOrder, fromOrder, placeIn}
+use Rattle.blocks.specs.declared.Place.the-variants.{At, Nothing}
+use Rattle.blocks.specs.declared.Referent.the-variants.{Missing, Found}
+
+-- a block of two slots, a free slot and a block of one
+whole : damagedBy 4 6 (5 ∷ 5 ∷ 0 ∷ 4 ∷ []) ≡ false
+unfolding any torn bad damagedBy floor
+whole = refl
+
+-- two slots that are no aligned range
+askew : damagedBy 4 6 (0 ∷ 5 ∷ 5 ∷ 0 ∷ []) ≡ true
+unfolding any torn bad damagedBy floor
+askew = refl
+
+overwritten : damagedBy 4 6 (6 ∷ 6 ∷ 6 ∷ 0 ∷ []) ≡ true
+unfolding any torn bad damagedBy floor
+overwritten = refl
+
+too-low : damagedBy 4 6 (0 ∷ 0 ∷ 3 ∷ 0 ∷ []) ≡ true
+unfolding any torn bad damagedBy floor
+too-low = refl
+
+too-high : damagedBy 4 6 (7 ∷ 7 ∷ 7 ∷ 7 ∷ []) ≡ true
+unfolding any torn bad damagedBy floor
+too-high = refl
+
+two : List Block
+two = record { start = 65584; order = 4 } ∷ record { start = 65536; order = 5 } ∷ []
+
+table-of-two : tableOf 4 6 two ≡ 5 ∷ 5 ∷ 0 ∷ 4 ∷ []
+unfolding two tableOf entriesFrom referentOf
+table-of-two = refl
+
+read-back : blocksOf 4 (5 ∷ 5 ∷ 0 ∷ 4 ∷ []) ≡ record { start = 65536; order = 5 } ∷ record { start = 65584; order = 4 } ∷ []
+unfolding blocksFrom
+read-back = refl
+
+in-block : referentIn 4 (5 ∷ 5 ∷ 0 ∷ 4 ∷ []) 65560 ≡ Found 65536 5
+unfolding referentIn floor
+in-block = refl
+
+in-free-slot : referentIn 4 (5 ∷ 5 ∷ 0 ∷ 4 ∷ []) 65568 ≡ Missing
+unfolding referentIn floor
+in-free-slot = refl
+
+-- eight before the arena leads up, eight past a block's end down, and an address below 16 to a negative one
+upwards : sought 4 2147549176 ≡ pos 65544
+unfolding sought
+upwards = refl
+
+downwards : sought 4 2147549223 ≡ pos 65559
+unfolding sought
+downwards = refl
+
+negative : sought 4 2147483655 ≡ negsuc 8
+unfolding sought
+negative = refl
+
+back-one : exactSum 65568 4294967295 ≡ pos 65567
+unfolding signed
+back-one = refl
+
+smallest : placeIn (freeIn (0 ∷ 0 ∷ 4 ∷ 0 ∷ [])) 4 0 6 4 ≡ At 3 4
+unfolding placeIn fromOrder atOrder lowest maximal freeRange rangeStart allFree
+smallest = refl
+
+next : placeIn (freeIn (0 ∷ 0 ∷ 4 ∷ 0 ∷ [])) 4 0 6 5 ≡ At 0 5
+unfolding placeIn fromOrder atOrder lowest maximal freeRange rangeStart allFree
+next = refl
+
+no-place : placeIn (freeIn (0 ∷ 0 ∷ 4 ∷ 0 ∷ [])) 4 0 6 6 ≡ Nothing
+unfolding placeIn fromOrder atOrder lowest maximal freeRange rangeStart allFree
+no-place = refl
+
+-- free neighbours that are not halves of one range are not joined
+no-halves : placeIn (freeIn (4 ∷ 0 ∷ 0 ∷ 4 ∷ [])) 4 0 6 5 ≡ Nothing
+unfolding placeIn fromOrder atOrder lowest maximal freeRange rangeStart allFree
+no-halves = refl
+
+orders : (orderOf 32 ≡ 5) × (orderOf 65536 ≡ 16) × (orderOf 48 ≡ 0) × (neededOrder 4 6 1 ≡ 4) × (neededOrder 4 6 17 ≡ 5) × (neededOrder 4 6 64 ≡ 6)
+unfolding orderOf neededOrder
+orders = (refl, refl, refl, refl, refl, refl)

@@ -1,0 +1,9 @@
+pub mod Blocks
+pub mod Tables
+pub mod Sets
+pub mod Pointers
+pub mod Orders
+pub mod Placing
+pub mod Searching
+pub mod Seeking
+pub mod Examples

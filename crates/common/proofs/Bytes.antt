@@ -1,0 +1,74 @@
+-- Laws of a list that is written over.
+use Prim.Native.Nat.{ℕ, zero, suc, _+_, _-_, _*_, _/_, _%_, _^_, _≤_, _<_}
+use mathlib.Core.Path.{_≡_, refl, sym, _∙_, ap, subst}
+use mathlib.Core.List.{List, [], _∷_, _++_, append-assoc}
+use native.Mathlib.Omega.{arith}
+use native.Mathlib.Nat.{add-zero, add-suc}
+use lib.ListN.{length, getD, set, take, drop, replicate, length-append, length-take, length-drop, length-replicate, take-append-drop, List·getD-append}
+use lib.Seq.{getD-append-add, getD-take, getD-drop, length-take-le, take-at, drop-at, take-set-le, drop-set-lt, set-split, take-suc-set}
+use Rattle.common.specs.Bytes.{bigEndian, bytesOf, over, copied}
+
+pub over-none : (l : List ℕ) (at : ℕ) → over l at [] ≡ l
+unfolding over
+over-none l at = rw add-zero (take-append-drop at l)
+
+-- the first element stored before the rest
+pub over-first : (l : List ℕ) (at x : ℕ) (xs : List ℕ) → at < length l → over l at (x ∷ xs) ≡ over (set l at x) (suc at) xs
+unfolding over
+over-first l at x xs h =
+    let e : suc at + length xs ≡ at + suc (length xs) = omega arith in
+    rw (take-suc-set l at x h, drop-set-lt (suc at + length xs) l at x (omega arith), e, append-assoc (take at l) (x ∷ []) (xs ++ drop (at + suc (length xs)) l))
+
+-- the last element stored before the others
+pub over-last : (l : List ℕ) (at : ℕ) (xs : List ℕ) (x : ℕ) → at + length xs < length l → over l at (xs ++ (x ∷ [])) ≡ over (set l (at + length xs) x) at xs
+unfolding over
+over-last l at xs x h =
+    let i : ℕ = at + length xs in
+    let d : drop i (set l i x) ≡ x ∷ drop (suc i) l = ap (drop i) (set-split l i x h) ∙ drop-at (take i l) (x ∷ drop (suc i) l) i (length-take-le i l (omega arith)) in
+    let e : at + length (xs ++ (x ∷ [])) ≡ suc i = ap (λ (n : ℕ). at + n) (length-append xs (x ∷ [])) ∙ omega arith in
+    rw (e, take-set-le at l i x (omega arith), d, append-assoc xs (x ∷ []) (drop (suc i) l))
+
+module _ (l : List ℕ) (at : ℕ) (xs : List ℕ) (fits : at + length xs ≤ length l) where
+  front : length (take at l) ≡ at
+  front = length-take-le at l (omega arith)
+
+  pub length-over : length (over l at xs) ≡ length l
+  unfolding over
+  length-over = simp (length-append, length-drop, front) (omega arith)
+
+  pub over-before : (i : ℕ) → i < at → getD (over l at xs) i 0 ≡ getD l i 0
+  unfolding over
+  over-before i h =
+      List·getD-append (take at l) (xs ++ drop (at + length xs) l) 0 i (omega (arith, front)) ∙ getD-take at l i 0 h
+
+  past : (i : ℕ) → getD (over l at xs) (at + i) 0 ≡ getD (xs ++ drop (at + length xs) l) i 0
+  unfolding over
+  past i =
+      subst (λ (k : ℕ). getD (take at l ++ (xs ++ drop (at + length xs) l)) (k + i) 0 ≡ getD (xs ++ drop (at + length xs) l) i 0) front
+      (getD-append-add (take at l) (xs ++ drop (at + length xs) l) i 0)
+
+  pub over-in : (i : ℕ) → i < length xs → getD (over l at xs) (at + i) 0 ≡ getD xs i 0
+  over-in i h = past i ∙ List·getD-append xs (drop (at + length xs) l) 0 i h
+
+  pub over-after : (i : ℕ) → at + length xs ≤ i → getD (over l at xs) i 0 ≡ getD l i 0
+  over-after i h =
+      let j : ℕ = i - (at + length xs) in
+      let p : at + (length xs + j) ≡ i = omega arith in
+      let q : at + length xs + j ≡ i = omega arith in
+      subst (λ (k : ℕ). getD (over l at xs) k 0 ≡ getD l i 0) p
+      (past (length xs + j) ∙ (getD-append-add xs (drop (at + length xs) l) j 0 ∙ (getD-drop (at + length xs) l j 0 ∙ ap (λ (k : ℕ). getD l k 0) q)))
+
+  -- written over once more at the same places
+  pub over-over : (ys : List ℕ) → length ys ≡ length xs → over (over l at xs) at ys ≡ over l at ys
+  unfolding over
+  over-over ys e =
+      let t : take at (over l at xs) ≡ take at l = take-at (take at l) (xs ++ drop (at + length xs) l) at front in
+      let n : length (take at l ++ xs) ≡ at + length xs = length-append (take at l) xs ∙ ap (λ (k : ℕ). k + length xs) front in
+      let d : drop (at + length xs) (over l at xs) ≡ drop (at + length xs) l =
+      ap (drop (at + length xs)) (sym (append-assoc (take at l) xs (drop (at + length xs) l))) ∙ drop-at (take at l ++ xs) (drop (at + length xs) l) (at + length xs) n in
+      rw (e, t, d)
+
+pub length-bytesOf : (w v : ℕ) → length (bytesOf w v) ≡ w
+unfolding bytesOf
+length-bytesOf zero v = refl
+length-bytesOf (suc w) v = length-append (bytesOf w (v / 256)) (v % 256 ∷ []) ∙ (ap (λ (n : ℕ). n + 1) (length-bytesOf w (v / 256)) ∙ omega arith)

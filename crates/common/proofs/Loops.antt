@@ -1,0 +1,54 @@
+-- A turn of each loop: what is still to come after it gives what was to come before.
+use Prim.Native.Nat.{ℕ, zero, suc, _+_, _-_, _*_, _/_, _%_, _^_, _≤_, _<_}
+use mathlib.Core.Path.{_≡_, refl, sym, _∙_, ap, subst}
+use mathlib.Core.List.{List, [], _∷_, _++_}
+use native.Mathlib.Omega.{arith}
+use native.Mathlib.Nat.{pow-suc, pow-le-pow-right}
+use lib.ListN.{length, getD, set, replicate}
+use Rattle.common.specs.Bytes.{bigEndian, bytesOf, over, copied}
+use Rattle.common.proofs.Bytes.{over-none, over-first, over-last, length-bytesOf}
+
+pub fill-turn : (l : List ℕ) (at n v i : ℕ) → i < n → at + i < length l → over l (at + i) (replicate (n - i) v) ≡ over (set l (at + i) v) (at + (i + 1)) (replicate (n - (i + 1)) v)
+fill-turn l at n v i h k =
+    let e : n - i ≡ suc (n - (i + 1)) = omega arith in
+    let a : suc (at + i) ≡ at + (i + 1) = omega arith in
+    rw (e, over-first l (at + i) v (replicate (n - (i + 1)) v) k, a)
+
+pub fill-end : (l : List ℕ) (at n v i : ℕ) → n ≤ i → over l (at + i) (replicate (n - i) v) ≡ l
+fill-end l at n v i h = let e : n - i ≡ 0 = omega arith in rw e (over-none l (at + i))
+
+pub copy-turn : (l : List ℕ) (to from c i : ℕ) → i < c → copied l (to + i) (from + i) (c - i) ≡ copied (set l (to + i) (getD l (from + i) 0)) (to + (i + 1)) (from + (i + 1)) (c - (i + 1))
+unfolding copied
+copy-turn l to from c i h =
+    let e : c - i ≡ suc (c - (i + 1)) = omega arith in
+    let a : suc (to + i) ≡ to + (i + 1) = omega arith in
+    let b : suc (from + i) ≡ from + (i + 1) = omega arith in
+    rw (e, ← a, ← b)
+
+pub copy-end : (l : List ℕ) (to from c i : ℕ) → c ≤ i → copied l (to + i) (from + i) (c - i) ≡ l
+unfolding copied
+copy-end l to from c i h = let e : c - i ≡ 0 = omega arith in rw e
+
+pub write-turn : (l : List ℕ) (at k v : ℕ) → 0 < k → at + k ≤ length l → over l at (bytesOf k v) ≡ over (set l (at + (k - 1)) (v % 256)) at (bytesOf (k - 1) (v / 256))
+unfolding bytesOf
+write-turn l at k v h f =
+    let e : k ≡ suc (k - 1) = omega arith in
+    let n : length (bytesOf (k - 1) (v / 256)) ≡ k - 1 = length-bytesOf (k - 1) (v / 256) in
+    ap (λ (j : ℕ). over l at (bytesOf j v)) e
+    ∙ (over-last l at (bytesOf (k - 1) (v / 256)) (v % 256) (omega arith) ∙ ap (λ (j : ℕ). over (set l (at + j) (v % 256)) at (bytesOf (k - 1) (v / 256))) n)
+
+pub write-end : (l : List ℕ) (at k v : ℕ) → k ≤ 0 → over l at (bytesOf k v) ≡ l
+unfolding bytesOf
+write-end l at k v h = let e : k ≡ 0 = omega arith in rw e (over-none l at)
+
+pub read-turn : (l : List ℕ) (at k : ℕ) → bigEndian l at (k + 1) ≡ bigEndian l at k * 256 + getD l (at + k) 0
+unfolding bigEndian
+read-turn l at k = let e : k + 1 ≡ suc k = omega arith in rw e
+
+-- one more byte keeps a number of k bytes below 256 ^ (k + 1), and that of 4 in 32 bits
+pub read-fits : (k v b : ℕ) → v < 256 ^ k → b < 256 → k < 4 → (v * 256 + b < 256 ^ (k + 1)) × (v * 256 + b < 2 ^ 32)
+read-fits k v b h l f =
+    let e : k + 1 ≡ suc k = omega arith in
+    let p : 256 ^ (k + 1) ≡ 256 ^ k * 256 = ap (λ (j : ℕ). 256 ^ j) e ∙ pow-suc 256 k in
+    let m : 256 ^ (k + 1) ≤ 256 ^ 4 = let j : k + 1 ≤ 4 = omega arith in pow-le-pow-right (omega arith) j in
+    (omega arith, omega arith)

@@ -1,0 +1,63 @@
+-- Document 01, "The eight calls": the value of a call that is not refused, and the bytes that it leaves. Both are said over a view, for the heap and the ledger alike.
+use Prim.Native.Nat.{ℕ, zero, suc, _+_, _-_, _*_, _^_, min}
+use mathlib.Core.Bool.{Bool, cond}
+use mathlib.Core.List.{List}
+use lib.IntN.{ℤ, natAbs}
+use lib.ListN.{replicate}
+use Rattle.common.specs.Refusals.{Refusal, first}
+use Rattle.common.specs.Bytes.{bigEndian, bytesOf, over, copied}
+use Rattle.blocks.specs.Blocks.{base, leftIn}
+use Rattle.blocks.specs.Pointers.{markBit, address, exactSum}
+use Rattle.blocks.specs.Orders.{neededOrder}
+use Rattle.heap.specs.Views.{View, slotOrder, referentOfPointer, placeFor, placeAddress}
+use Rattle.heap.specs.declared.Answer.{Answer}
+use Rattle.heap.specs.declared.Call.{Call}
+use Rattle.heap.specs.declared.Call.the-variants.{Get, Give, Step, Read, Write, Left, Copy, Fill}
+
+-- bytes from p to its referent's end
+abbrev pub leftFrom : View → ℕ → ℕ
+leftFrom w p = leftIn (referentOfPointer w p) p
+
+-- how many bytes a copy and a fill store
+abbrev pub copyCount : View → ℕ → ℕ → ℕ → ℕ
+copyCount w p q n = min n (min (leftFrom w p) (leftFrom w q))
+
+abbrev pub fillCount : View → ℕ → ℕ → ℕ
+fillCount w p n = min n (leftFrom w p)
+
+-- the bytes of the block of 2 ^ e at `at`, from n on, cleared
+abbrev pub cleared : List ℕ → ℕ → ℕ → ℕ → List ℕ
+cleared b at e n = over b (at + n) (replicate (2 ^ e - n) 0)
+
+unfoldable pub value : ℕ → Call → View → List ℕ → ℕ
+value m (Get n) w b = placeAddress (placeFor m n w)
+value m (Give p) w b = 0
+value m (Step p i) w b = let r = natAbs (exactSum (address p) i) in cond (w .inside p i) r (markBit + r)
+value m (Read p k) w b = bigEndian b (p - base) k
+value m (Write p k v) w b = 0
+value m (Left p) w b = leftFrom w p
+value m (Copy p q n) w b = copyCount w p q n
+value m (Fill p v n) w b = fillCount w p n
+
+unfoldable pub stored : ℕ → Call → View → List ℕ → List ℕ
+stored m (Get n) w b = cleared b (placeAddress (placeFor m n w) - base) (neededOrder slotOrder m n) n
+stored m (Give p) w b = b
+stored m (Step p i) w b = b
+stored m (Read p k) w b = b
+stored m (Write p k v) w b = over b (p - base) (bytesOf k v)
+stored m (Left p) w b = b
+stored m (Copy p q n) w b = copied b (p - base) (q - base) (copyCount w p q n)
+stored m (Fill p v n) w b = over b (p - base) (replicate (fillCount w p n) v)
+
+-- What a call leaves: its answer and the state.
+pub record Outcome (S : Type 0) : Type 0 where
+  pub answer : Answer
+  pub state : S
+
+abbrev pub settled : {S : Type 0} → ℕ → S → ℕ → S → Outcome S
+settled zero old v new = record { answer = record { number = 0; value = v }; state = new }
+settled (suc n) old v new = record { answer = record { number = suc n; value = 0 }; state = old }
+
+-- Judged by the rules: refused, the value is 0 and the old state stays; else the value and the new state.
+abbrev pub judged : {S : Type 0} → List Refusal → S → ℕ → S → Outcome S
+judged rs old v new = settled (first rs) old v new

@@ -1,0 +1,145 @@
+-- Outside vectors on the definitions: direct calls, pokes into the table between them, and both buffers at the end.
+use Prim.Native.Nat.{ℕ, zero, suc}
+use mathlib.Core.Path.{_≡_, refl}
+use mathlib.Core.Bool.{Bool, true, false, _&&_}
+use mathlib.Core.List.{List, [], _∷_}
+use lib.Dec.{eqb}
+use lib.ListN.{set}
+use Rattle.common.specs.Bytes.{bigEndian, bytesOf, over, copied}
+use Rattle.blocks.specs.Blocks.{floor}
+use Rattle.blocks.specs.Tables.{any, torn, bad, damagedBy, referentIn}
+use Rattle.blocks.specs.Pointers.{sought, signed, checkBits, within, inReach}
+use Rattle.blocks.specs.Orders.{orderOf, neededOrder}
+use Rattle.blocks.specs.Placing.{allFree, rangeStart, freeRange, maximal, lowest, atOrder, fromOrder, placeIn}
+use Rattle.heap.specs.Rules.{argumentRules, stateRules, rules}
+use Rattle.heap.specs.Effects.{Outcome, value, stored}
+use Rattle.heap.specs.Heaps.{Heap, heapOf, insideByCheck, entered, heapStep, heapCall, heapFresh, freshHeap, heapCheck, pointerNumber, shown}
+use Rattle.heap.specs.declared.Answer.{Answer}
+use Rattle.heap.specs.declared.Call.{Call}
+use Rattle.heap.specs.declared.Call.the-variants.{Get, Give, Step, Read, Write, Left, Copy, Fill}
+
+-- a line of a vector: a call with its number and value, a fresh, a check, a show with its number and bytes, an entry overwritten, a buffer
+data Line : Type 0 where
+  answers : Call → ℕ → ℕ → Line
+  freshens : ℕ → Line
+  checks : ℕ → ℕ → ℕ → ℕ → Line
+  shows : ℕ → ℕ → List ℕ → Line
+  pokes : ℕ → ℕ → Line
+  arenaIs tableIs : List ℕ → Line
+
+same : List ℕ → List ℕ → Bool
+same [] [] = true
+same [] (y ∷ ys) = false
+same (x ∷ xs) [] = false
+same (x ∷ xs) (y ∷ ys) = eqb x y && same xs ys
+
+is : Answer → ℕ → ℕ → Bool
+is x n v = eqb (x .number) n && eqb (x .value) v
+
+-- every line is as it should be
+holdAt : List Line → Heap → Bool
+holdAt [] h = true
+holdAt (answers c n v ∷ ls) h = is (heapCall c h .answer) n v && holdAt ls (heapCall c h .state)
+holdAt (freshens n ∷ ls) h = is (heapFresh h .answer) n 0 && holdAt ls (heapFresh h .state)
+holdAt (checks p i n v ∷ ls) h = is (heapCheck p i h) n v && holdAt ls h
+holdAt (shows p n bs ∷ ls) h = eqb (pointerNumber h p) n && (same (shown p h) bs && holdAt ls h)
+holdAt (pokes i v ∷ ls) h = holdAt ls (heapOf (h .arena) (set (h .table) i v))
+holdAt (arenaIs bs ∷ ls) h = same (h .arena) bs && holdAt ls h
+holdAt (tableIs bs ∷ ls) h = same (h .table) bs && holdAt ls h
+
+calls-047 : List Line
+calls-047 =
+    answers (Fill 65533 117 16) 22 0 ∷ shows 65559 22 ([]) ∷ answers (Give 65581) 22 0 ∷ shows 65585 22 ([]) ∷ answers (Get 64) 0 65536
+    ∷ shows 65543 0 (0 ∷ 0 ∷ 0 ∷ 0 ∷ 0 ∷ 0 ∷ 0 ∷ 0 ∷ 0 ∷ 0 ∷ 0 ∷ 0 ∷ 0 ∷ 0 ∷ 0 ∷ 0 ∷ 0 ∷ 0 ∷ 0 ∷ 0 ∷ 0 ∷ 0 ∷ 0 ∷ 0 ∷ 0 ∷ 0 ∷ 0 ∷ 0 ∷ 0 ∷ 0 ∷ 0 ∷ 0 ∷ 0 ∷ 0 ∷ 0 ∷ 0 ∷ 0 ∷ 0 ∷ 0 ∷ 0 ∷ 0 ∷ 0 ∷ 0 ∷ 0 ∷ 0 ∷ 0 ∷ 0 ∷ 0 ∷ 0 ∷ 0 ∷ 0 ∷ 0 ∷ 0 ∷ 0 ∷ 0 ∷ 0 ∷ 0 ∷ [])
+    ∷ answers (Give 262146) 22 0
+    ∷ shows 65536 0 (0 ∷ 0 ∷ 0 ∷ 0 ∷ 0 ∷ 0 ∷ 0 ∷ 0 ∷ 0 ∷ 0 ∷ 0 ∷ 0 ∷ 0 ∷ 0 ∷ 0 ∷ 0 ∷ 0 ∷ 0 ∷ 0 ∷ 0 ∷ 0 ∷ 0 ∷ 0 ∷ 0 ∷ 0 ∷ 0 ∷ 0 ∷ 0 ∷ 0 ∷ 0 ∷ 0 ∷ 0 ∷ 0 ∷ 0 ∷ 0 ∷ 0 ∷ 0 ∷ 0 ∷ 0 ∷ 0 ∷ 0 ∷ 0 ∷ 0 ∷ 0 ∷ 0 ∷ 0 ∷ 0 ∷ 0 ∷ 0 ∷ 0 ∷ 0 ∷ 0 ∷ 0 ∷ 0 ∷ 0 ∷ 0 ∷ 0 ∷ 0 ∷ 0 ∷ 0 ∷ 0 ∷ 0 ∷ 0 ∷ 0 ∷ [])
+    ∷ pokes 0 128 ∷ checks 65520 4294967217 20 0 ∷ pokes 0 6 ∷ answers (Step 65549 4294967268) 24 0
+    ∷ shows 65536 0 (0 ∷ 0 ∷ 0 ∷ 0 ∷ 0 ∷ 0 ∷ 0 ∷ 0 ∷ 0 ∷ 0 ∷ 0 ∷ 0 ∷ 0 ∷ 0 ∷ 0 ∷ 0 ∷ 0 ∷ 0 ∷ 0 ∷ 0 ∷ 0 ∷ 0 ∷ 0 ∷ 0 ∷ 0 ∷ 0 ∷ 0 ∷ 0 ∷ 0 ∷ 0 ∷ 0 ∷ 0 ∷ 0 ∷ 0 ∷ 0 ∷ 0 ∷ 0 ∷ 0 ∷ 0 ∷ 0 ∷ 0 ∷ 0 ∷ 0 ∷ 0 ∷ 0 ∷ 0 ∷ 0 ∷ 0 ∷ 0 ∷ 0 ∷ 0 ∷ 0 ∷ 0 ∷ 0 ∷ 0 ∷ 0 ∷ 0 ∷ 0 ∷ 0 ∷ 0 ∷ 0 ∷ 0 ∷ 0 ∷ 0 ∷ [])
+    ∷ answers (Get 17) 21 0
+    ∷ shows 65544 0 (0 ∷ 0 ∷ 0 ∷ 0 ∷ 0 ∷ 0 ∷ 0 ∷ 0 ∷ 0 ∷ 0 ∷ 0 ∷ 0 ∷ 0 ∷ 0 ∷ 0 ∷ 0 ∷ 0 ∷ 0 ∷ 0 ∷ 0 ∷ 0 ∷ 0 ∷ 0 ∷ 0 ∷ 0 ∷ 0 ∷ 0 ∷ 0 ∷ 0 ∷ 0 ∷ 0 ∷ 0 ∷ 0 ∷ 0 ∷ 0 ∷ 0 ∷ 0 ∷ 0 ∷ 0 ∷ 0 ∷ 0 ∷ 0 ∷ 0 ∷ 0 ∷ 0 ∷ 0 ∷ 0 ∷ 0 ∷ 0 ∷ 0 ∷ 0 ∷ 0 ∷ 0 ∷ 0 ∷ 0 ∷ 0 ∷ [])
+    ∷ answers (Read 65536 4) 0 0 ∷ shows 2147745774 13 ([]) ∷ answers (Read 65528 1) 22 0
+    ∷ shows 65536 0 (0 ∷ 0 ∷ 0 ∷ 0 ∷ 0 ∷ 0 ∷ 0 ∷ 0 ∷ 0 ∷ 0 ∷ 0 ∷ 0 ∷ 0 ∷ 0 ∷ 0 ∷ 0 ∷ 0 ∷ 0 ∷ 0 ∷ 0 ∷ 0 ∷ 0 ∷ 0 ∷ 0 ∷ 0 ∷ 0 ∷ 0 ∷ 0 ∷ 0 ∷ 0 ∷ 0 ∷ 0 ∷ 0 ∷ 0 ∷ 0 ∷ 0 ∷ 0 ∷ 0 ∷ 0 ∷ 0 ∷ 0 ∷ 0 ∷ 0 ∷ 0 ∷ 0 ∷ 0 ∷ 0 ∷ 0 ∷ 0 ∷ 0 ∷ 0 ∷ 0 ∷ 0 ∷ 0 ∷ 0 ∷ 0 ∷ 0 ∷ 0 ∷ 0 ∷ 0 ∷ 0 ∷ 0 ∷ 0 ∷ 0 ∷ [])
+    ∷ answers (Write 262152 3 955000842) 11 0
+    ∷ shows 65536 0 (0 ∷ 0 ∷ 0 ∷ 0 ∷ 0 ∷ 0 ∷ 0 ∷ 0 ∷ 0 ∷ 0 ∷ 0 ∷ 0 ∷ 0 ∷ 0 ∷ 0 ∷ 0 ∷ 0 ∷ 0 ∷ 0 ∷ 0 ∷ 0 ∷ 0 ∷ 0 ∷ 0 ∷ 0 ∷ 0 ∷ 0 ∷ 0 ∷ 0 ∷ 0 ∷ 0 ∷ 0 ∷ 0 ∷ 0 ∷ 0 ∷ 0 ∷ 0 ∷ 0 ∷ 0 ∷ 0 ∷ 0 ∷ 0 ∷ 0 ∷ 0 ∷ 0 ∷ 0 ∷ 0 ∷ 0 ∷ 0 ∷ 0 ∷ 0 ∷ 0 ∷ 0 ∷ 0 ∷ 0 ∷ 0 ∷ 0 ∷ 0 ∷ 0 ∷ 0 ∷ 0 ∷ 0 ∷ 0 ∷ 0 ∷ [])
+    ∷ freshens 0 ∷ shows 65536 22 ([]) ∷ answers (Give 65552) 22 0 ∷ shows 65544 22 ([]) ∷ answers (Write 65536 4 65536) 22 0 ∷ shows 65536 22 ([])
+    ∷ freshens 0 ∷ shows 2147745778 13 ([]) ∷ answers (Step 65566 9) 22 0 ∷ shows 65588 22 ([]) ∷ answers (Read 65536 0) 11 0 ∷ shows 65536 22 ([])
+    ∷ answers (Give 65534) 22 0 ∷ shows 65545 22 ([]) ∷ answers (Give 65536) 22 0 ∷ shows 65528 22 ([]) ∷ answers (Give 65536) 22 0
+    ∷ shows 65544 22 ([]) ∷ pokes 1 0 ∷ answers (Get 1) 0 65536 ∷ pokes 1 0 ∷ answers (Get 37) 21 0 ∷ answers (Get 17) 0 65568 ∷ shows 1 22 ([])
+    ∷ answers (Give 65536) 0 0
+    ∷ shows 65574 0 (0 ∷ 0 ∷ 0 ∷ 0 ∷ 0 ∷ 0 ∷ 0 ∷ 0 ∷ 0 ∷ 0 ∷ 0 ∷ 0 ∷ 0 ∷ 0 ∷ 0 ∷ 0 ∷ 0 ∷ 0 ∷ 0 ∷ 0 ∷ 0 ∷ 0 ∷ 0 ∷ 0 ∷ 0 ∷ 0 ∷ []) ∷ pokes 1 128
+    ∷ answers (Give 65568) 20 0 ∷ pokes 1 0 ∷ answers (Get 16) 0 65536 ∷ shows 3584167078 13 ([]) ∷ answers (Give 65570) 23 0
+    ∷ shows 65551 0 (0 ∷ []) ∷ checks 65519 17 22 0 ∷ shows 2147549262 13 ([]) ∷ answers (Get 16) 0 65552
+    ∷ shows 65552 0 (0 ∷ 0 ∷ 0 ∷ 0 ∷ 0 ∷ 0 ∷ 0 ∷ 0 ∷ 0 ∷ 0 ∷ 0 ∷ 0 ∷ 0 ∷ 0 ∷ 0 ∷ 0 ∷ []) ∷ answers (Get 16) 21 0
+    ∷ shows 65541 0 (0 ∷ 0 ∷ 0 ∷ 0 ∷ 0 ∷ 0 ∷ 0 ∷ 0 ∷ 0 ∷ 0 ∷ 0 ∷ []) ∷ answers (Step 2147745805 2247109860) 22 0
+    ∷ shows 65536 0 (0 ∷ 0 ∷ 0 ∷ 0 ∷ 0 ∷ 0 ∷ 0 ∷ 0 ∷ 0 ∷ 0 ∷ 0 ∷ 0 ∷ 0 ∷ 0 ∷ 0 ∷ 0 ∷ []) ∷ answers (Write 2147745781 1 65536) 12 0
+    ∷ shows 65519 22 ([]) ∷ answers (Step 65552 4294967288) 0 2147549192
+    ∷ shows 65536 0 (0 ∷ 0 ∷ 0 ∷ 0 ∷ 0 ∷ 0 ∷ 0 ∷ 0 ∷ 0 ∷ 0 ∷ 0 ∷ 0 ∷ 0 ∷ 0 ∷ 0 ∷ 0 ∷ []) ∷ answers (Get 64) 21 0
+    ∷ shows 65559 0 (0 ∷ 0 ∷ 0 ∷ 0 ∷ 0 ∷ 0 ∷ 0 ∷ 0 ∷ 0 ∷ []) ∷ answers (Left 65545) 0 7 ∷ shows 65519 22 ([]) ∷ answers (Get 4) 21 0
+    ∷ shows 65536 0 (0 ∷ 0 ∷ 0 ∷ 0 ∷ 0 ∷ 0 ∷ 0 ∷ 0 ∷ 0 ∷ 0 ∷ 0 ∷ 0 ∷ 0 ∷ 0 ∷ 0 ∷ 0 ∷ []) ∷ answers (Left 262135) 22 0
+    ∷ shows 65585 0 (0 ∷ 0 ∷ 0 ∷ 0 ∷ 0 ∷ 0 ∷ 0 ∷ 0 ∷ 0 ∷ 0 ∷ 0 ∷ 0 ∷ 0 ∷ 0 ∷ 0 ∷ []) ∷ answers (Write 65549 4 256) 25 0
+    ∷ shows 65568 0 (0 ∷ 0 ∷ 0 ∷ 0 ∷ 0 ∷ 0 ∷ 0 ∷ 0 ∷ 0 ∷ 0 ∷ 0 ∷ 0 ∷ 0 ∷ 0 ∷ 0 ∷ 0 ∷ 0 ∷ 0 ∷ 0 ∷ 0 ∷ 0 ∷ 0 ∷ 0 ∷ 0 ∷ 0 ∷ 0 ∷ 0 ∷ 0 ∷ 0 ∷ 0 ∷ 0 ∷ 0 ∷ [])
+    ∷ checks 2147745806 2537399657 13 0 ∷ shows 65598 0 (0 ∷ 0 ∷ []) ∷ answers (Get 1020249951) 10 0
+    ∷ shows 65543 0 (0 ∷ 0 ∷ 0 ∷ 0 ∷ 0 ∷ 0 ∷ 0 ∷ 0 ∷ 0 ∷ []) ∷ checks 2147549192 4294967279 13 0
+    ∷ shows 65568 0 (0 ∷ 0 ∷ 0 ∷ 0 ∷ 0 ∷ 0 ∷ 0 ∷ 0 ∷ 0 ∷ 0 ∷ 0 ∷ 0 ∷ 0 ∷ 0 ∷ 0 ∷ 0 ∷ 0 ∷ 0 ∷ 0 ∷ 0 ∷ 0 ∷ 0 ∷ 0 ∷ 0 ∷ 0 ∷ 0 ∷ 0 ∷ 0 ∷ 0 ∷ 0 ∷ 0 ∷ 0 ∷ [])
+    ∷ answers (Get 17) 21 0 ∷ shows 65536 0 (0 ∷ 0 ∷ 0 ∷ 0 ∷ 0 ∷ 0 ∷ 0 ∷ 0 ∷ 0 ∷ 0 ∷ 0 ∷ 0 ∷ 0 ∷ 0 ∷ 0 ∷ 0 ∷ []) ∷ answers (Fill 65536 86 1) 0 1
+    ∷ shows 65554 0 (0 ∷ 0 ∷ 0 ∷ 0 ∷ 0 ∷ 0 ∷ 0 ∷ 0 ∷ 0 ∷ 0 ∷ 0 ∷ 0 ∷ 0 ∷ 0 ∷ []) ∷ answers (Give 65567) 23 0
+    ∷ shows 65545 0 (0 ∷ 0 ∷ 0 ∷ 0 ∷ 0 ∷ 0 ∷ 0 ∷ []) ∷ answers (Left 2147483663) 13 0 ∷ shows 65543 0 (0 ∷ 0 ∷ 0 ∷ 0 ∷ 0 ∷ 0 ∷ 0 ∷ 0 ∷ 0 ∷ [])
+    ∷ answers (Fill 2147549206 4 65) 13 0 ∷ shows 65552 0 (0 ∷ 0 ∷ 0 ∷ 0 ∷ 0 ∷ 0 ∷ 0 ∷ 0 ∷ 0 ∷ 0 ∷ 0 ∷ 0 ∷ 0 ∷ 0 ∷ 0 ∷ 0 ∷ [])
+    ∷ answers (Write 65568 0 3328590856) 11 0 ∷ shows 2147745796 13 ([]) ∷ answers (Left 65559) 0 9 ∷ shows 2147549192 13 ([])
+    ∷ answers (Get 3875554917) 10 0 ∷ shows 2147549205 13 ([]) ∷ answers (Give 65580) 23 0 ∷ shows 2147549185 13 ([]) ∷ answers (Get 64) 21 0
+    ∷ shows 65551 0 (0 ∷ []) ∷ answers (Copy 65548 65600 3) 22 0
+    ∷ shows 65536 0 (86 ∷ 0 ∷ 0 ∷ 0 ∷ 0 ∷ 0 ∷ 0 ∷ 0 ∷ 0 ∷ 0 ∷ 0 ∷ 0 ∷ 0 ∷ 0 ∷ 0 ∷ 0 ∷ [])
+    ∷ arenaIs (86 ∷ 0 ∷ 0 ∷ 0 ∷ 0 ∷ 0 ∷ 0 ∷ 0 ∷ 0 ∷ 0 ∷ 0 ∷ 0 ∷ 0 ∷ 0 ∷ 0 ∷ 0 ∷ 0 ∷ 0 ∷ 0 ∷ 0 ∷ 0 ∷ 0 ∷ 0 ∷ 0 ∷ 0 ∷ 0 ∷ 0 ∷ 0 ∷ 0 ∷ 0 ∷ 0 ∷ 0 ∷ 0 ∷ 0 ∷ 0 ∷ 0 ∷ 0 ∷ 0 ∷ 0 ∷ 0 ∷ 0 ∷ 0 ∷ 0 ∷ 0 ∷ 0 ∷ 0 ∷ 0 ∷ 0 ∷ 0 ∷ 0 ∷ 0 ∷ 0 ∷ 0 ∷ 0 ∷ 0 ∷ 0 ∷ 0 ∷ 0 ∷ 0 ∷ 0 ∷ 0 ∷ 0 ∷ 0 ∷ 0 ∷ [])
+    ∷ tableIs (4 ∷ 4 ∷ 5 ∷ 5 ∷ []) ∷ []
+
+holds-047 : holdAt calls-047 (freshHeap 6) ≡ true
+unfolding bigEndian bytesOf over copied floor any torn bad damagedBy referentIn sought signed checkBits within inReach orderOf neededOrder allFree rangeStart freeRange maximal lowest atOrder fromOrder placeIn argumentRules stateRules rules value stored insideByCheck entered heapStep heapCall heapFresh heapCheck shown same is holdAt calls-047
+holds-047 = refl
+
+calls-004 : List Line
+calls-004 =
+    answers (Get 2) 0 65536 ∷ shows 65525 22 ([]) ∷ answers (Read 65536 1) 0 0 ∷ shows 65527 22 ([]) ∷ answers (Step 65536 13) 0 65549
+    ∷ shows 65527 22 ([]) ∷ answers (Step 65536 1125870274) 24 0 ∷ shows 65580 22 ([]) ∷ answers (Copy 65549 65580 128) 22 0 ∷ shows 65569 22 ([])
+    ∷ answers (Fill 65541 169 3) 0 3 ∷ shows 65549 0 (0 ∷ 0 ∷ 0 ∷ []) ∷ answers (Get 0) 10 0 ∷ shows 2147745776 13 ([]) ∷ answers (Give 65549) 23 0
+    ∷ shows 65562 22 ([]) ∷ answers (Get 348061392) 10 0 ∷ shows 65549 0 (0 ∷ 0 ∷ 0 ∷ []) ∷ checks 65536 4294967253 0 0 ∷ shows 65562 22 ([])
+    ∷ answers (Fill 65549 39 2) 0 2 ∷ shows 65549 0 (39 ∷ 39 ∷ 0 ∷ []) ∷ answers (Step 65553 16) 22 0 ∷ shows 262156 22 ([]) ∷ freshens 0
+    ∷ shows 65562 22 ([]) ∷ checks 65549 4294967265 22 0 ∷ shows 65578 22 ([]) ∷ answers (Get 17) 0 65536 ∷ shows 65592 22 ([])
+    ∷ answers (Step 65528 4294967236) 22 0 ∷ shows 65580 22 ([]) ∷ answers (Get 0) 10 0 ∷ shows 65523 22 ([]) ∷ answers (Step 65582 4294967152) 22 0
+    ∷ shows 65545 0 (0 ∷ 0 ∷ 0 ∷ 0 ∷ 0 ∷ 0 ∷ 0 ∷ 0 ∷ 0 ∷ 0 ∷ 0 ∷ 0 ∷ 0 ∷ 0 ∷ 0 ∷ 0 ∷ 0 ∷ 0 ∷ 0 ∷ 0 ∷ 0 ∷ 0 ∷ 0 ∷ []) ∷ checks 262144 3466294047 22 0
+    ∷ shows 65536 0 (0 ∷ 0 ∷ 0 ∷ 0 ∷ 0 ∷ 0 ∷ 0 ∷ 0 ∷ 0 ∷ 0 ∷ 0 ∷ 0 ∷ 0 ∷ 0 ∷ 0 ∷ 0 ∷ 0 ∷ 0 ∷ 0 ∷ 0 ∷ 0 ∷ 0 ∷ 0 ∷ 0 ∷ 0 ∷ 0 ∷ 0 ∷ 0 ∷ 0 ∷ 0 ∷ 0 ∷ 0 ∷ [])
+    ∷ answers (Get 1) 0 65568 ∷ shows 65662 22 ([]) ∷ answers (Write 65568 2 2520391247) 12 0 ∷ shows 65586 22 ([]) ∷ answers (Get 8) 0 65584
+    ∷ shows 65568 0 (0 ∷ 0 ∷ 0 ∷ 0 ∷ 0 ∷ 0 ∷ 0 ∷ 0 ∷ 0 ∷ 0 ∷ 0 ∷ 0 ∷ 0 ∷ 0 ∷ 0 ∷ 0 ∷ []) ∷ answers (Write 65584 1 4294967295) 12 0
+    ∷ shows 65536 0 (0 ∷ 0 ∷ 0 ∷ 0 ∷ 0 ∷ 0 ∷ 0 ∷ 0 ∷ 0 ∷ 0 ∷ 0 ∷ 0 ∷ 0 ∷ 0 ∷ 0 ∷ 0 ∷ 0 ∷ 0 ∷ 0 ∷ 0 ∷ 0 ∷ 0 ∷ 0 ∷ 0 ∷ 0 ∷ 0 ∷ 0 ∷ 0 ∷ 0 ∷ 0 ∷ 0 ∷ 0 ∷ [])
+    ∷ answers (Get 33) 0 65600 ∷ shows 65548 0 (0 ∷ 0 ∷ 0 ∷ 0 ∷ 0 ∷ 0 ∷ 0 ∷ 0 ∷ 0 ∷ 0 ∷ 0 ∷ 0 ∷ 0 ∷ 0 ∷ 0 ∷ 0 ∷ 0 ∷ 0 ∷ 0 ∷ 0 ∷ [])
+    ∷ answers (Step 65600 788323851) 24 0 ∷ shows 2147483647 22 ([]) ∷ answers (Left 2147549291) 13 0
+    ∷ shows 65536 0 (0 ∷ 0 ∷ 0 ∷ 0 ∷ 0 ∷ 0 ∷ 0 ∷ 0 ∷ 0 ∷ 0 ∷ 0 ∷ 0 ∷ 0 ∷ 0 ∷ 0 ∷ 0 ∷ 0 ∷ 0 ∷ 0 ∷ 0 ∷ 0 ∷ 0 ∷ 0 ∷ 0 ∷ 0 ∷ 0 ∷ 0 ∷ 0 ∷ 0 ∷ 0 ∷ 0 ∷ 0 ∷ [])
+    ∷ checks 65561 51 0 0 ∷ shows 2147549306 13 ([]) ∷ answers (Copy 65568 65616 16) 0 16 ∷ shows 2147745780 13 ([]) ∷ answers (Get 17) 21 0
+    ∷ shows 65584 0 (0 ∷ 0 ∷ 0 ∷ 0 ∷ 0 ∷ 0 ∷ 0 ∷ 0 ∷ 0 ∷ 0 ∷ 0 ∷ 0 ∷ 0 ∷ 0 ∷ 0 ∷ 0 ∷ []) ∷ checks 65645 16 0 1 ∷ shows 65596 0 (0 ∷ 0 ∷ 0 ∷ 0 ∷ [])
+    ∷ answers (Get 15) 21 0 ∷ shows 2147745811 13 ([]) ∷ answers (Fill 2147483663 244 53) 13 0
+    ∷ shows 65584 0 (0 ∷ 0 ∷ 0 ∷ 0 ∷ 0 ∷ 0 ∷ 0 ∷ 0 ∷ 0 ∷ 0 ∷ 0 ∷ 0 ∷ 0 ∷ 0 ∷ 0 ∷ 0 ∷ []) ∷ answers (Get 2) 21 0
+    ∷ shows 65568 0 (0 ∷ 0 ∷ 0 ∷ 0 ∷ 0 ∷ 0 ∷ 0 ∷ 0 ∷ 0 ∷ 0 ∷ 0 ∷ 0 ∷ 0 ∷ 0 ∷ 0 ∷ 0 ∷ []) ∷ pokes 6 5 ∷ answers (Fill 65536 47 128) 20 0 ∷ pokes 6 6
+    ∷ answers (Left 65600) 0 64
+    ∷ shows 65536 0 (0 ∷ 0 ∷ 0 ∷ 0 ∷ 0 ∷ 0 ∷ 0 ∷ 0 ∷ 0 ∷ 0 ∷ 0 ∷ 0 ∷ 0 ∷ 0 ∷ 0 ∷ 0 ∷ 0 ∷ 0 ∷ 0 ∷ 0 ∷ 0 ∷ 0 ∷ 0 ∷ 0 ∷ 0 ∷ 0 ∷ 0 ∷ 0 ∷ 0 ∷ 0 ∷ 0 ∷ 0 ∷ [])
+    ∷ answers (Copy 65568 262150 8) 22 0 ∷ shows 4294967288 13 ([]) ∷ answers (Step 2147549196 4294967286) 0 65538
+    ∷ shows 65600 0 (0 ∷ 0 ∷ 0 ∷ 0 ∷ 0 ∷ 0 ∷ 0 ∷ 0 ∷ 0 ∷ 0 ∷ 0 ∷ 0 ∷ 0 ∷ 0 ∷ 0 ∷ 0 ∷ 0 ∷ 0 ∷ 0 ∷ 0 ∷ 0 ∷ 0 ∷ 0 ∷ 0 ∷ 0 ∷ 0 ∷ 0 ∷ 0 ∷ 0 ∷ 0 ∷ 0 ∷ 0 ∷ 0 ∷ 0 ∷ 0 ∷ 0 ∷ 0 ∷ 0 ∷ 0 ∷ 0 ∷ 0 ∷ 0 ∷ 0 ∷ 0 ∷ 0 ∷ 0 ∷ 0 ∷ 0 ∷ 0 ∷ 0 ∷ 0 ∷ 0 ∷ 0 ∷ 0 ∷ 0 ∷ 0 ∷ 0 ∷ 0 ∷ 0 ∷ 0 ∷ 0 ∷ 0 ∷ 0 ∷ 0 ∷ [])
+    ∷ checks 65580 1 0 1
+    ∷ shows 65635 0 (0 ∷ 0 ∷ 0 ∷ 0 ∷ 0 ∷ 0 ∷ 0 ∷ 0 ∷ 0 ∷ 0 ∷ 0 ∷ 0 ∷ 0 ∷ 0 ∷ 0 ∷ 0 ∷ 0 ∷ 0 ∷ 0 ∷ 0 ∷ 0 ∷ 0 ∷ 0 ∷ 0 ∷ 0 ∷ 0 ∷ 0 ∷ 0 ∷ 0 ∷ [])
+    ∷ answers (Left 65614) 0 50
+    ∷ shows 65536 0 (0 ∷ 0 ∷ 0 ∷ 0 ∷ 0 ∷ 0 ∷ 0 ∷ 0 ∷ 0 ∷ 0 ∷ 0 ∷ 0 ∷ 0 ∷ 0 ∷ 0 ∷ 0 ∷ 0 ∷ 0 ∷ 0 ∷ 0 ∷ 0 ∷ 0 ∷ 0 ∷ 0 ∷ 0 ∷ 0 ∷ 0 ∷ 0 ∷ 0 ∷ 0 ∷ 0 ∷ 0 ∷ [])
+    ∷ answers (Step 262126 3418419106) 22 0
+    ∷ shows 65536 0 (0 ∷ 0 ∷ 0 ∷ 0 ∷ 0 ∷ 0 ∷ 0 ∷ 0 ∷ 0 ∷ 0 ∷ 0 ∷ 0 ∷ 0 ∷ 0 ∷ 0 ∷ 0 ∷ 0 ∷ 0 ∷ 0 ∷ 0 ∷ 0 ∷ 0 ∷ 0 ∷ 0 ∷ 0 ∷ 0 ∷ 0 ∷ 0 ∷ 0 ∷ 0 ∷ 0 ∷ 0 ∷ [])
+    ∷ checks 65591 4294967295 0 1 ∷ shows 262142 22 ([]) ∷ answers (Copy 65584 65538 17) 0 16 ∷ shows 65597 0 (0 ∷ 0 ∷ 0 ∷ [])
+    ∷ answers (Give 65549) 23 0
+    ∷ shows 65538 0 (0 ∷ 0 ∷ 0 ∷ 0 ∷ 0 ∷ 0 ∷ 0 ∷ 0 ∷ 0 ∷ 0 ∷ 0 ∷ 0 ∷ 0 ∷ 0 ∷ 0 ∷ 0 ∷ 0 ∷ 0 ∷ 0 ∷ 0 ∷ 0 ∷ 0 ∷ 0 ∷ 0 ∷ 0 ∷ 0 ∷ 0 ∷ 0 ∷ 0 ∷ 0 ∷ [])
+    ∷ answers (Get 3) 21 0 ∷ shows 65551 0 (0 ∷ 0 ∷ 0 ∷ 0 ∷ 0 ∷ 0 ∷ 0 ∷ 0 ∷ 0 ∷ 0 ∷ 0 ∷ 0 ∷ 0 ∷ 0 ∷ 0 ∷ 0 ∷ 0 ∷ []) ∷ answers (Read 65600 4) 0 0
+    ∷ shows 262139 22 ([]) ∷ checks 65584 4294967287 0 0 ∷ shows 65585 0 (0 ∷ 0 ∷ 0 ∷ 0 ∷ 0 ∷ 0 ∷ 0 ∷ 0 ∷ 0 ∷ 0 ∷ 0 ∷ 0 ∷ 0 ∷ 0 ∷ 0 ∷ [])
+    ∷ answers (Step 262150 0) 22 0
+    ∷ shows 65540 0 (0 ∷ 0 ∷ 0 ∷ 0 ∷ 0 ∷ 0 ∷ 0 ∷ 0 ∷ 0 ∷ 0 ∷ 0 ∷ 0 ∷ 0 ∷ 0 ∷ 0 ∷ 0 ∷ 0 ∷ 0 ∷ 0 ∷ 0 ∷ 0 ∷ 0 ∷ 0 ∷ 0 ∷ 0 ∷ 0 ∷ 0 ∷ 0 ∷ [])
+    ∷ checks 65530 77 22 0 ∷ shows 2147549281 13 ([]) ∷ answers (Step 65653 0) 0 65653 ∷ shows 65668 22 ([]) ∷ answers (Read 2147483655 255) 11 0
+    ∷ shows 65584 0 (0 ∷ 0 ∷ 0 ∷ 0 ∷ 0 ∷ 0 ∷ 0 ∷ 0 ∷ 0 ∷ 0 ∷ 0 ∷ 0 ∷ 0 ∷ 0 ∷ 0 ∷ 0 ∷ [])
+    ∷ arenaIs (0 ∷ 0 ∷ 0 ∷ 0 ∷ 0 ∷ 0 ∷ 0 ∷ 0 ∷ 0 ∷ 0 ∷ 0 ∷ 0 ∷ 0 ∷ 0 ∷ 0 ∷ 0 ∷ 0 ∷ 0 ∷ 0 ∷ 0 ∷ 0 ∷ 0 ∷ 0 ∷ 0 ∷ 0 ∷ 0 ∷ 0 ∷ 0 ∷ 0 ∷ 0 ∷ 0 ∷ 0 ∷ 0 ∷ 0 ∷ 0 ∷ 0 ∷ 0 ∷ 0 ∷ 0 ∷ 0 ∷ 0 ∷ 0 ∷ 0 ∷ 0 ∷ 0 ∷ 0 ∷ 0 ∷ 0 ∷ 0 ∷ 0 ∷ 0 ∷ 0 ∷ 0 ∷ 0 ∷ 0 ∷ 0 ∷ 0 ∷ 0 ∷ 0 ∷ 0 ∷ 0 ∷ 0 ∷ 0 ∷ 0 ∷ 0 ∷ 0 ∷ 0 ∷ 0 ∷ 0 ∷ 0 ∷ 0 ∷ 0 ∷ 0 ∷ 0 ∷ 0 ∷ 0 ∷ 0 ∷ 0 ∷ 0 ∷ 0 ∷ 0 ∷ 0 ∷ 0 ∷ 0 ∷ 0 ∷ 0 ∷ 0 ∷ 0 ∷ 0 ∷ 0 ∷ 0 ∷ 0 ∷ 0 ∷ 0 ∷ 0 ∷ 0 ∷ 0 ∷ 0 ∷ 0 ∷ 0 ∷ 0 ∷ 0 ∷ 0 ∷ 0 ∷ 0 ∷ 0 ∷ 0 ∷ 0 ∷ 0 ∷ 0 ∷ 0 ∷ 0 ∷ 0 ∷ 0 ∷ 0 ∷ 0 ∷ 0 ∷ 0 ∷ 0 ∷ 0 ∷ 0 ∷ 0 ∷ 0 ∷ 0 ∷ 0 ∷ 0 ∷ 0 ∷ 0 ∷ [])
+    ∷ tableIs (5 ∷ 5 ∷ 4 ∷ 4 ∷ 6 ∷ 6 ∷ 6 ∷ 6 ∷ []) ∷ []
+
+holds-004 : holdAt calls-004 (freshHeap 7) ≡ true
+unfolding bigEndian bytesOf over copied floor any torn bad damagedBy referentIn sought signed checkBits within inReach orderOf neededOrder allFree rangeStart freeRange maximal lowest atOrder fromOrder placeIn argumentRules stateRules rules value stored insideByCheck entered heapStep heapCall heapFresh heapCheck shown same is holdAt calls-004
+holds-004 = refl

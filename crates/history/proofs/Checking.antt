@@ -1,0 +1,199 @@
+-- On a heap that is judged by the ledger's view: the check passes for the addresses of the block alone, and a marked pointer in reach of a block leads back to it.
+use Prim.Native.Nat.{ℕ, zero, suc, _+_, _-_, _*_, _%_, _^_, _≤_, _<_}
+use mathlib.Core.Path.{_≡_, refl, sym, _∙_, ap}
+use mathlib.Core.Bool.{Bool, true, false, _&&_, _||_}
+use mathlib.Core.Logic.{_⊎_, inl, inr}
+use mathlib.Core.List.{List, [], _∷_, List·Memᴰ, List·Memᴰ·head, List·Memᴰ·tail}
+use native.Mathlib.Nat.{add-sub-cancel-left, add-mul, suc-mul}
+use native.Mathlib.Decide.{decLe}
+use native.Mathlib.Omega.{arith}
+use lib.Dec.{leb, ltb}
+use lib.IntN.{pos, subℕ}
+use lib.ListN.{length, getD}
+use lib.Signed.{leZ}
+use lib.Pow.{pow-pos, pow-mono, low}
+use borrow.Author.Tests.{leb-true, ltb-true, le-leb, lt-leb, lt-ltb, le-ltb}
+use Rattle.blocks.specs.Blocks.{base, Block, holds, Aligned}
+use Rattle.blocks.specs.Pointers.{markBit, marked, address, sought, signed, exactSum, within, inReach}
+use Rattle.blocks.specs.Orders.{orderOf}
+use Rattle.blocks.specs.declared.Referent.the-variants.{Found}
+use Rattle.blocks.proofs.Booleans.{and-left, and-right}
+use Rattle.blocks.proofs.Floors.{pow-split}
+use Rattle.blocks.proofs.Slots.{slots-of}
+use Rattle.heap.specs.Views.{View, slotOrder}
+use Rattle.heap.specs.Rules.{rules, argumentRules, stateRules}
+use Rattle.heap.specs.Effects.{value, stored, Outcome, judged}
+use Rattle.heap.specs.Heaps.{Heap, heapOf, heapView, entered, heapStep, heapCall, heapCheck, bit}
+use Rattle.heap.specs.declared.Call.the-variants.{Step, Left}
+use Rattle.history.specs.Ledgers.{Ledger, ledgerView}
+use Rattle.history.specs.Demand3.{accepted, distance}
+use Rattle.history.proofs.Agreement.{Proper, none, more}
+use Rattle.history.proofs.Pairs.{found-not-missing, held-high, holds-by, member-found, proper-set}
+
+-- ---- blocks apart
+
+member-at : (bs : List Block) (b : Block) (i : ℕ) → i < length bs → List·Memᴰ (getD bs i b) bs
+member-at [] b i h = absurd (omega arith)
+member-at (c ∷ bs) b zero h = List·Memᴰ·head refl
+member-at (c ∷ bs) b (suc i) h = List·Memᴰ·tail (member-at bs b i (omega arith))
+
+-- no two places of the list have blocks that share an address
+pub places-apart : {t m : ℕ} {bs : List Block} → Proper t m bs → (i j : ℕ) (b : Block) → i < j → j < length bs → (q : ℕ) → holds (getD bs i b) q ≡ true → holds (getD bs j b) q ≡ true → ⊥
+places-apart none i j b l h q x y = omega arith
+places-apart (more a d p) i zero b l h q x y = omega arith
+places-apart (more {bs = bs} a d p) zero (suc j) b l h q x y = found-not-missing (d q x) (member-found p _ (member-at bs b j (omega arith)) q y)
+places-apart (more a d p) (suc i) (suc j) b l h q x y = places-apart p i j b (omega arith) (omega arith) q x y
+
+-- ---- marked pointers
+
+or-cases : (a b : Bool) → a || b ≡ true → (a ≡ true) ⊎ (b ≡ true)
+or-cases true b h = inl refl
+or-cases false b h = inr h
+
+marked-mark : (r : ℕ) → marked (markBit + r) ≡ true
+marked-mark r = le-leb markBit (markBit + r) (omega arith)
+
+address-mark : (r : ℕ) → address (markBit + r) ≡ r
+address-mark r = rw (marked-mark r) (add-sub-cancel-left markBit r)
+
+sub-pos : (a b c : ℕ) → b ≤ a → a - b ≡ c → subℕ a b ≡ pos c
+sub-pos a b c h e = rw (le-ltb a b h) (ap pos e)
+
+-- the distance from r to q leads from r to q exactly
+exact-distance : (r q : ℕ) → r < 2 ^ 31 → q < 2 ^ 31 → exactSum r (distance r q) ≡ pos q
+unfolding signed
+exact-distance r q a b = go (decLe r q)
+  where
+    go : Dec (r ≤ q) → exactSum r (distance r q) ≡ pos q
+    go (yes l) =
+        let x : distance r q % 2 ^ 32 ≡ q - r = omega arith in
+        rw (x, lt-ltb (q - r) (2 ^ 31) (omega arith)) (ap pos (omega arith))
+    go (no n) =
+        let x : distance r q % 2 ^ 32 ≡ 2 ^ 32 - (r - q) = omega arith in
+        rw (x, le-ltb (2 ^ 32 - (r - q)) (2 ^ 31) (omega arith), lt-ltb (2 ^ 32 - (r - q)) (2 ^ 32) (omega arith))
+        (sub-pos r _ q (omega arith) (omega arith))
+
+-- the address at which the referent of the marked r is sought lies in the block
+pub record LeadsBack (t r : ℕ) (b : Block) : Type 0 where
+  pub at : ℕ
+  pub seeks : sought t (markBit + r) ≡ pos at
+  pub held : holds b at ≡ true
+  pub near : r < b .start + 2 ^ b .order + 2 ^ (t - 1)
+
+module _ (t m : ℕ) (b : Block) (a : Aligned t m b) (slot : 1 ≤ t) (size : m ≤ 16) (r : ℕ) where
+  half : 2 ^ t ≡ 2 ^ (t - 1) * 2
+  half = pow-split 1 t slot
+
+  -- the block's start, in slots from address 0
+  number : ℕ
+  number = 2 ^ (16 - t) + slots-of t m b a .first
+
+  start-is : b .start ≡ number * 2 ^ t
+  unfolding number
+  start-is =
+      let z = slots-of t m b a in
+      let k : base ≡ 2 ^ (16 - t) * 2 ^ t = pow-split t 16 (omega (arith, a .low, a .high)) in
+      omega (arith, z .start, add-mul (2 ^ (16 - t)) (z .first) (2 ^ t))
+
+  size-is : 2 ^ b .order ≡ 2 ^ (b .order - t) * 2 ^ t
+  size-is = pow-split t (b .order) (a .low)
+
+  slot-le : 2 ^ t ≤ 2 ^ b .order
+  slot-le = pow-mono (a .low)
+
+  -- below the block the referent is sought a slot higher, past it a slot lower
+  before : b .start ≤ r + 2 ^ (t - 1) → r < b .start → LeadsBack t r b
+  unfolding sought number
+  before lo hi =
+      let k : ℕ = number - 1 in
+      let one : suc k ≡ number = omega (arith, pow-pos (16 - t)) in
+      let s : b .start ≡ k * 2 ^ t + 2 ^ t = start-is ∙ ap (λ (n : ℕ). n * 2 ^ t) (sym one) ∙ suc-mul k (2 ^ t) in
+      let d : r ≡ k * 2 ^ t + (r - k * 2 ^ t) = omega (arith, half) in
+      let x : r % 2 ^ t ≡ r - k * 2 ^ t = ap (λ (n : ℕ). n % 2 ^ t) d ∙ low k t (omega arith) in
+      record {
+        at = r + 2 ^ t;
+        seeks = rw (marked-mark r, add-sub-cancel-left markBit r, le-ltb (r % 2 ^ t) (2 ^ (t - 1)) (omega (arith, half)));
+        held = holds-by b (r + 2 ^ t) (omega (arith, half)) (omega (arith, slot-le));
+        near = omega arith;
+      }
+
+  past : b .start + 2 ^ b .order ≤ r → r < b .start + 2 ^ b .order + 2 ^ (t - 1) → LeadsBack t r b
+  unfolding sought
+  past lo hi =
+      let k : ℕ = number + 2 ^ (b .order - t) in
+      let s : b .start + 2 ^ b .order ≡ k * 2 ^ t = omega (arith, start-is, size-is, add-mul number (2 ^ (b .order - t)) (2 ^ t)) in
+      let d : r ≡ k * 2 ^ t + (r - k * 2 ^ t) = omega arith in
+      let x : r % 2 ^ t ≡ r - k * 2 ^ t = ap (λ (n : ℕ). n % 2 ^ t) d ∙ low k t (omega (arith, half)) in
+      record {
+        at = r - 2 ^ t;
+        seeks =
+            rw (marked-mark r, add-sub-cancel-left markBit r, lt-ltb (r % 2 ^ t) (2 ^ (t - 1)) (omega arith))
+            (sub-pos r (2 ^ t) (r - 2 ^ t) (omega (arith, slot-le)) refl);
+        held = holds-by b (r - 2 ^ t) (omega (arith, slot-le)) (omega (arith, half));
+        near = hi;
+      }
+
+  pub leads-back : inReach t (Found (b .start) (b .order)) (pos r) ≡ true → LeadsBack t r b
+  unfolding inReach
+  leads-back h = go (or-cases _ _ h)
+    where
+      reach : 2 ^ (t - 1) ≤ b .start
+      reach = let p : 2 ^ (t - 1) ≤ 2 ^ 16 = pow-mono {i = t - 1} {j = 16} (omega (arith, a .low, a .high)) in omega (arith, a .place)
+
+      go : (leZ (subℕ (b .start) (2 ^ (t - 1))) (pos r) && ltb r (b .start) ≡ true) ⊎ (leb (b .start + 2 ^ b .order) r && ltb r (b .start + 2 ^ b .order + 2 ^ (t - 1)) ≡ true)
+          → LeadsBack t r b
+      go (inl x) =
+          let y : leb (b .start - 2 ^ (t - 1)) r && ltb r (b .start) ≡ true = rw (sub-pos (b .start) (2 ^ (t - 1)) _ reach refl) at x in
+          let z : b .start - 2 ^ (t - 1) ≤ r = leb-true _ _ (and-left _ _ y) in
+          before (omega arith) (ltb-true _ _ (and-right (leb (b .start - 2 ^ (t - 1)) r) _ y))
+      go (inr x) = past (leb-true _ _ (and-left _ _ x)) (ltb-true _ _ (and-right (leb (b .start + 2 ^ b .order) r) _ x))
+
+-- ---- the calls
+
+module _ (m : ℕ) (size : m ≤ 16) (h : Heap) (l : Ledger) (proper : Proper slotOrder m (l .pairs))
+    (order : orderOf (length (h .arena)) ≡ m) (view : heapView m h ≡ ledgerView l)
+    (b : Block) (member : List·Memᴰ b (l .pairs)) where
+  aligned : Aligned slotOrder m b
+  aligned = proper-set proper .aligned b member
+
+  small : b .start + 2 ^ b .order ≤ 2 ^ 17
+  small = let p : 2 ^ m ≤ 2 ^ 16 = pow-mono size in omega (arith, aligned .inside)
+
+  -- the two calls by a view
+  abbrev checked : (q i n : ℕ) → View → Outcome Heap
+  checked q i n w = judged (rules n (Left q) w) h (bit (w .inside q i)) h
+
+  abbrev stepped : (p i n : ℕ) → View → Outcome Heap
+  stepped p i n w =
+      judged (rules n (Step p i) w) h (value n (Step p i) w (h .arena)) (heapOf (stored n (Step p i) w (h .arena)) (entered n (Step p i) w (h .table)))
+
+  module _ (q : ℕ) (held : holds b q ≡ true) where
+    low-address : q < 2 ^ 31
+    low-address = omega (arith, held-high b q held, small)
+
+    check-by-ledger : (i : ℕ) → checked q i m (ledgerView l) ≡ record { answer = accepted (bit (within (Found (b .start) (b .order)) (exactSum q i))); state = h }
+    unfolding rules argumentRules stateRules sought
+    check-by-ledger i = rw (lt-leb markBit q low-address, member-found proper b member q held)
+
+    pub check-is : (i : ℕ) → heapCheck q i h ≡ accepted (bit (within (Found (b .start) (b .order)) (exactSum q i)))
+    unfolding heapCheck
+    check-is i =
+        ap (λ (o : Outcome Heap). o .answer)
+        (ap (λ (n : ℕ). checked q i n (heapView n h)) order ∙ ap (checked q i m) view ∙ check-by-ledger i)
+
+    module _ (r : ℕ) (reach : inReach slotOrder (Found (b .start) (b .order)) (pos r) ≡ true) where
+      back : LeadsBack slotOrder r b
+      back = leads-back slotOrder m b aligned (omega arith) size r reach
+
+      exact : exactSum (address (markBit + r)) (distance r q) ≡ pos q
+      exact = ap (λ (x : ℕ). exactSum x (distance r q)) (address-mark r) ∙ exact-distance r q (omega (arith, back .near, small)) low-address
+
+      step-by-ledger : stepped (markBit + r) (distance r q) m (ledgerView l) ≡ record { answer = accepted q; state = h }
+      unfolding rules argumentRules stateRules value stored entered within
+      step-by-ledger = rw (back .seeks, member-found proper b member (back .at) (back .held), exact, held)
+
+      pub recovers : heapCall (Step (markBit + r) (distance r q)) h ≡ record { answer = accepted q; state = h }
+      unfolding heapCall heapStep
+      recovers =
+          ap (λ (n : ℕ). stepped (markBit + r) (distance r q) n (heapView n h)) order
+          ∙ ap (stepped (markBit + r) (distance r q) m) view ∙ step-by-ledger

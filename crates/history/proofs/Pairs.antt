@@ -1,0 +1,298 @@
+-- The pairs of a ledger: aligned blocks that stand apart, and the referent that they give an address. t is the smallest order.
+use Prim.Native.Nat.{ℕ, zero, suc, _+_, _-_, _*_, _/_, _^_, _≤_, _<_}
+use mathlib.Core.Path.{_≡_, refl, sym, _∙_, ap, subst}
+use mathlib.Core.Bool.{Bool, true, false, cond, _&&_, false≢true}
+use mathlib.Core.Logic.{_⊎_, inl, inr}
+use mathlib.Core.List.{List, [], _∷_, _++_, List·Memᴰ, List·Memᴰ·head, List·Memᴰ·tail}
+use native.Mathlib.Omega.{arith}
+use native.Mathlib.Nat.{mul-assoc, add-mul, mul-le-mul-right, mul-lt-mul-of-pos-right, le-of-mul-le-mul-right, lt-of-mul-lt-mul-right}
+use lib.Dec.{leb, ltb, eqb}
+use lib.Pow.{pow-pos, shr-mono, shl-shr}
+use borrow.Author.Tests.{ltb-true, ltb-false, leb-true, lt-ltb, le-leb, eqb-true, eqb-false}
+use Rattle.blocks.specs.Blocks.{base, floor, Block, holds, Aligned, missing}
+use Rattle.blocks.specs.Sets.{referentOf, BlockSet}
+use Rattle.blocks.specs.declared.Referent.{Referent}
+use Rattle.blocks.specs.declared.Referent.the-variants.{Missing, Found}
+use Rattle.blocks.proofs.Booleans.{and-left, and-right, and-both, true-together}
+use Rattle.blocks.proofs.Floors.{floor-le, lt-floor, pow-split}
+use Rattle.history.specs.Ledgers.{without}
+use Rattle.history.proofs.Agreement.{Proper, none, more}
+
+abbrev pub block : ℕ → ℕ → Block
+block s e = record { start = s; order = e }
+
+pub found-not-missing {ℓ} : {X : Type ℓ} {x : Referent} {s e : ℕ} → x ≡ Missing → x ≡ Found s e → X
+found-not-missing p q = absurd (false≢true (sym (ap missing q) ∙ ap missing p))
+
+-- ---- the addresses of a block
+
+pub held-low : (b : Block) (q : ℕ) → holds b q ≡ true → b .start ≤ q
+held-low b q h = leb-true (b .start) q (and-left _ _ h)
+
+pub held-high : (b : Block) (q : ℕ) → holds b q ≡ true → q < b .start + 2 ^ b .order
+held-high b q h = ltb-true q (b .start + 2 ^ b .order) (and-right (leb (b .start) q) _ h)
+
+pub holds-by : (b : Block) (q : ℕ) → b .start ≤ q → q < b .start + 2 ^ b .order → holds b q ≡ true
+holds-by b q x y = and-both (le-leb (b .start) q x) (lt-ltb q (b .start + 2 ^ b .order) y)
+
+pub holds-not : (b : Block) (q : ℕ) → (b .start ≤ q → q < b .start + 2 ^ b .order → ⊥) → holds b q ≡ false
+holds-not b q n = go (holds b q) refl
+  where
+    go : (t : Bool) → holds b q ≡ t → t ≡ false
+    go true k = absurd (n (held-low b q k) (held-high b q k))
+    go false k = refl
+
+-- the first address of q's slot
+abbrev pub slotOf : ℕ → ℕ → ℕ
+slotOf t q = base + floor t (q - base)
+
+-- a multiple of 2 ^ t is at most q where it is at most q's floor
+multiple-le : (t n q : ℕ) → n * 2 ^ t ≤ q → n * 2 ^ t ≤ floor t q
+unfolding floor
+multiple-le t n q h = mul-le-mul-right (2 ^ t) (rw (shl-shr n t) at (shr-mono t h))
+
+-- a block in slots: its first slot and how many it has
+pub record InSlots (t m s e : ℕ) : Type 0 where
+  pub first : ℕ
+  pub start : s ≡ base + first * 2 ^ t
+
+  pub ends : s + 2 ^ e ≡ base + (first + 2 ^ (e - t)) * 2 ^ t
+  pub within : first + 2 ^ (e - t) ≤ 2 ^ (m - t)
+  pub index : ℕ
+  pub aligned : first ≡ index * 2 ^ (e - t)
+
+pub in-slots : (t m s e : ℕ) → Aligned t m (block s e) → InSlots t m s e
+in-slots t m s e a =
+    let i : ℕ = a .index in
+    let low : t ≤ e = a .low in
+    let high : e ≤ m = a .high in
+    let k : 2 ^ e ≡ 2 ^ (e - t) * 2 ^ t = pow-split t e low in
+    let n : 2 ^ m ≡ 2 ^ (m - t) * 2 ^ t = pow-split t m (omega arith) in
+    let p : s ≡ base + i * 2 ^ e = a .place in
+    let f : i * 2 ^ e ≡ i * 2 ^ (e - t) * 2 ^ t = ap (λ (x : ℕ). i * x) k ∙ sym (mul-assoc i (2 ^ (e - t)) (2 ^ t)) in
+    let d : (i * 2 ^ (e - t) + 2 ^ (e - t)) * 2 ^ t ≡ i * 2 ^ (e - t) * 2 ^ t + 2 ^ (e - t) * 2 ^ t = add-mul (i * 2 ^ (e - t)) (2 ^ (e - t)) (2 ^ t) in
+    let w : s + 2 ^ e ≤ base + 2 ^ m = a .inside in
+    let l : (i * 2 ^ (e - t) + 2 ^ (e - t)) * 2 ^ t ≤ 2 ^ (m - t) * 2 ^ t = omega arith in
+    record
+    { first = i * 2 ^ (e - t)
+    ; start = omega arith
+    ; ends = omega arith
+    ; within = le-of-mul-le-mul-right l (pow-pos t)
+    ; index = i
+    ; aligned = refl
+    }
+
+-- a block holds a slot's first address where the slot is one of the block's
+module _ {t m s e : ℕ} (z : InSlots t m s e) (j : ℕ) where
+  pub slot-low : s ≤ base + j * 2 ^ t → z .first ≤ j
+  slot-low h = let a : s ≡ base + z .first * 2 ^ t = z .start in let l : z .first * 2 ^ t ≤ j * 2 ^ t = omega arith in le-of-mul-le-mul-right l (pow-pos t)
+
+  pub slot-high : base + j * 2 ^ t < s + 2 ^ e → j < z .first + 2 ^ (e - t)
+  slot-high h =
+      let a : s + 2 ^ e ≡ base + (z .first + 2 ^ (e - t)) * 2 ^ t = z .ends in
+      let l : j * 2 ^ t < (z .first + 2 ^ (e - t)) * 2 ^ t = omega arith in lt-of-mul-lt-mul-right (2 ^ t) l
+
+  pub low-slot : z .first ≤ j → s ≤ base + j * 2 ^ t
+  low-slot h = let a : s ≡ base + z .first * 2 ^ t = z .start in let l : z .first * 2 ^ t ≤ j * 2 ^ t = mul-le-mul-right (2 ^ t) h in omega arith
+
+  pub high-slot : j < z .first + 2 ^ (e - t) → base + j * 2 ^ t < s + 2 ^ e
+  high-slot h =
+      let a : s + 2 ^ e ≡ base + (z .first + 2 ^ (e - t)) * 2 ^ t = z .ends in
+      let l : j * 2 ^ t < (z .first + 2 ^ (e - t)) * 2 ^ t = mul-lt-mul-of-pos-right h (pow-pos t) in omega arith
+
+-- a block holds an address where it holds the first of its slot
+holds-slot : {t m : ℕ} (b : Block) → Aligned t m b → (q : ℕ) → base ≤ q → holds b q ≡ holds b (slotOf t q)
+holds-slot {t} {m} b a q h =
+    true-together (holds b q) (holds b (slotOf t q))
+    (λ u. let lo : b .start ≤ q = held-low b q u in let hi : q < b .start + 2 ^ b .order = held-high b q u in holds-by b (slotOf t q) (omega (arith, st, up (z .first) (omega (arith, st)))) (omega (arith, down)))
+    (λ u. let lo : b .start ≤ slotOf t q = held-low b (slotOf t q) u in holds-by b q (omega (arith, down)) (below (held-high b (slotOf t q) u)))
+  where
+    z : InSlots t m (b .start) (b .order)
+    z = in-slots t m (b .start) (b .order) a
+    st : b .start ≡ base + z .first * 2 ^ t
+    st = z .start
+    en : b .start + 2 ^ b .order ≡ base + (z .first + 2 ^ (b .order - t)) * 2 ^ t
+    en = z .ends
+    down : floor t (q - base) ≤ q - base
+    down = floor-le t (q - base)
+    up : (n : ℕ) → n * 2 ^ t ≤ q - base → n * 2 ^ t ≤ floor t (q - base)
+    up n = multiple-le t n (q - base)
+    below : slotOf t q < b .start + 2 ^ b .order → q < b .start + 2 ^ b .order
+    below u = go (ltb q (b .start + 2 ^ b .order)) refl
+      where
+        go : (x : Bool) → ltb q (b .start + 2 ^ b .order) ≡ x → q < b .start + 2 ^ b .order
+        go true k = ltb-true _ _ k
+        go false k =
+            let v : b .start + 2 ^ b .order ≤ q = ltb-false _ _ k in
+            absurd (omega (arith, en, up (z .first + 2 ^ (b .order - t)) (omega (arith, en))))
+
+pub referent-slot : {t m : ℕ} {bs : List Block} → Proper t m bs → (q : ℕ) → base ≤ q → referentOf bs q ≡ referentOf bs (slotOf t q)
+unfolding referentOf
+referent-slot none q h = refl
+referent-slot (more {b} {bs} a d p) q h = rw (holds-slot b a q h, referent-slot p q h)
+
+-- ---- the block found at an address
+
+pub record Held (t m s e q : ℕ) : Type 0 where
+  pub aligned : Aligned t m (block s e)
+  pub held : holds (block s e) q ≡ true
+
+pub found : {t m : ℕ} {bs : List Block} → Proper t m bs → (s e q : ℕ) → referentOf bs q ≡ Found s e → Held t m s e q
+unfolding referentOf
+found none s e q h = found-not-missing refl h
+found {t} {m} (more {b} {bs} a d p) s e q h = go (found p s e q) (holds b q) refl h
+  where
+    go : (referentOf bs q ≡ Found s e → Held t m s e q) → (u : Bool) → holds b q ≡ u → cond u (Found (b .start) (b .order)) (referentOf bs q) ≡ Found s e → Held t m s e q
+    go ih true w k =
+        let x : b .start ≡ s = cc in
+        let y : b .order ≡ e = cc in
+        let z : b ≡ block s e = λ i. record { start = x i; order = y i } in
+        record { aligned = subst (Aligned t m) z a; held = subst (λ (r : Block). holds r q ≡ true) z w }
+    go ih false w k = ih k
+
+-- each address of the block found has it for its referent
+pub whole : {t m : ℕ} {bs : List Block} → Proper t m bs → (s e q : ℕ) → referentOf bs q ≡ Found s e → (r : ℕ) → holds (block s e) r ≡ true → referentOf bs r ≡ Found s e
+unfolding referentOf
+whole none s e q h r i = found-not-missing refl h
+whole (more {b} {bs} a d p) s e q h r i = go (λ k. whole p s e q k r i) (holds b q) (holds b r) refl refl h
+  where
+    go : (referentOf bs q ≡ Found s e → referentOf bs r ≡ Found s e) → (u v : Bool) → holds b q ≡ u → holds b r ≡ v → cond u (Found (b .start) (b .order)) (referentOf bs q) ≡ Found s e
+        → cond v (Found (b .start) (b .order)) (referentOf bs r) ≡ Found s e
+    go ih true true w x k = k
+    go ih true false w x k =
+        let f : b .start ≡ s = cc in
+        let g : b .order ≡ e = cc in
+        let z : block s e ≡ b = λ j. record { start = sym f j; order = sym g j } in
+        absurd (false≢true (sym x ∙ subst (λ (y : Block). holds y r ≡ true) z i))
+    go ih false true w x k = found-not-missing (d r x) (ih k)
+    go ih false false w x k = ih k
+
+-- outside the arena there is no referent
+pub outside : {t m : ℕ} {bs : List Block} → Proper t m bs → (q : ℕ) → (q < base) ⊎ (base + 2 ^ m ≤ q) → referentOf bs q ≡ Missing
+outside {t} {m} {bs} p q o = go (referentOf bs q) refl
+  where
+    no : (s e : ℕ) → Held t m s e q → (q < base) ⊎ (base + 2 ^ m ≤ q) → ⊥
+    no s e f (inl h) =
+        let i : s ≡ base + f .aligned .index * 2 ^ e = f .aligned .place in
+        let j : s ≤ q = held-low (block s e) q (f .held) in omega arith
+    no s e f (inr h) =
+        let i : s + 2 ^ e ≤ base + 2 ^ m = f .aligned .inside in
+        let j : q < s + 2 ^ e = held-high (block s e) q (f .held) in omega arith
+    go : (x : Referent) → referentOf bs q ≡ x → x ≡ Missing
+    go Missing h = refl
+    go (Found s e) h = absurd (no s e (found p s e q h) o)
+
+-- ---- the pairs are a set of blocks
+
+member-aligned : {t m : ℕ} {bs : List Block} → Proper t m bs → (b : Block) → List·Memᴰ b bs → Aligned t m b
+member-aligned {t} {m} (more a d p) b (List·Memᴰ·head e) = subst (Aligned t m) (sym e) a
+member-aligned (more a d p) b (List·Memᴰ·tail i) = member-aligned p b i
+
+pub member-found : {t m : ℕ} {bs : List Block} → Proper t m bs → (b : Block) → List·Memᴰ b bs → (q : ℕ) → holds b q ≡ true → referentOf bs q ≡ Found (b .start) (b .order)
+unfolding referentOf
+member-found (more {b = c} {bs} a d p) b (List·Memᴰ·head e) q h =
+    let k : holds c q ≡ true = subst (λ (x : Block). holds x q ≡ true) e h in
+    rw k (ap (λ (x : Block). Found (x .start) (x .order)) (sym e))
+member-found (more {b = c} {bs} a d p) b (List·Memᴰ·tail i) q h = go (holds c q) refl (member-found p b i q h)
+  where
+    go : (u : Bool) → holds c q ≡ u → referentOf bs q ≡ Found (b .start) (b .order) → cond u (Found (c .start) (c .order)) (referentOf bs q) ≡ Found (b .start) (b .order)
+    go true w k = found-not-missing (d q w) k
+    go false w k = k
+
+pub proper-set : {t m : ℕ} {bs : List Block} → Proper t m bs → BlockSet t m bs
+proper-set {t} {m} {bs} p =
+    record
+    { aligned = member-aligned p
+    ; apart = λ b c i j q h k. same b c (sym (member-found p b i q h) ∙ member-found p c j q k)
+    }
+  where
+    same : (b c : Block) → Found (b .start) (b .order) ≡ Found (c .start) (c .order) → b ≡ c
+    same b c e =
+        let x : b .start ≡ c .start = cc in
+        let y : b .order ≡ c .order = cc in
+        λ i. record { start = x i; order = y i }
+
+-- ---- a pair removed: its addresses have no referent, the others keep theirs
+
+without-none : {t m : ℕ} {bs : List Block} → Proper t m bs → (p q : ℕ) → referentOf bs q ≡ Missing → referentOf (without p bs) q ≡ Missing
+unfolding referentOf without
+without-none none p q h = refl
+without-none (more {b} {bs} a d r) p q h = go (without-none r p q) (eqb (b .start) p) (holds b q) refl h
+  where
+    go : (referentOf bs q ≡ Missing → referentOf (without p bs) q ≡ Missing) → (u v : Bool) → holds b q ≡ v → cond v (Found (b .start) (b .order)) (referentOf bs q) ≡ Missing
+        → referentOf (cond u (without p bs) (b ∷ without p bs)) q ≡ Missing
+    go ih u true w k = found-not-missing k refl
+    go ih true false w k = ih k
+    go ih false false w k = rw w (ih k)
+
+pub without-in : {t m : ℕ} {bs : List Block} → Proper t m bs → (p e q : ℕ) → referentOf bs q ≡ Found p e → referentOf (without p bs) q ≡ Missing
+unfolding referentOf without
+without-in none p e q h = refl
+without-in (more {b} {bs} a d r) p e q h = go (without-in r p e q) (eqb (b .start) p) (holds b q) refl refl h
+  where
+    go : (referentOf bs q ≡ Found p e → referentOf (without p bs) q ≡ Missing) → (u v : Bool) → eqb (b .start) p ≡ u → holds b q ≡ v → cond v (Found (b .start) (b .order)) (referentOf bs q) ≡ Found p e
+        → referentOf (cond u (without p bs) (b ∷ without p bs)) q ≡ Missing
+    go ih true true x w k = without-none r p q (d q w)
+    go ih false true x w k = let z : b .start ≡ p = cc in absurd (eqb-false (b .start) p x z)
+    go ih true false x w k = ih k
+    go ih false false x w k = rw w (ih k)
+
+-- an address that no block which starts at p holds
+pub without-out : {t m : ℕ} {bs : List Block} → Proper t m bs → (p q : ℕ) → ((e : ℕ) → referentOf bs q ≡ Found p e → ⊥) → referentOf (without p bs) q ≡ referentOf bs q
+unfolding referentOf without
+without-out none p q h = refl
+without-out (more {b} {bs} a d r) p q h = go (without-out r p q) (eqb (b .start) p) (holds b q) refl refl h
+  where
+    go : (((e : ℕ) → referentOf bs q ≡ Found p e → ⊥) → referentOf (without p bs) q ≡ referentOf bs q) → (u v : Bool) → eqb (b .start) p ≡ u → holds b q ≡ v
+        → ((e : ℕ) → cond v (Found (b .start) (b .order)) (referentOf bs q) ≡ Found p e → ⊥)
+        → referentOf (cond u (without p bs) (b ∷ without p bs)) q ≡ cond v (Found (b .start) (b .order)) (referentOf bs q)
+    go ih true true x w k = absurd (k (b .order) (ap (λ (n : ℕ). Found n (b .order)) (eqb-true (b .start) p x)))
+    go ih true false x w k = ih k
+    go ih false true x w k = rw w
+    go ih false false x w k = rw w (ih k)
+
+pub without-proper : {t m : ℕ} {bs : List Block} (p : ℕ) → Proper t m bs → Proper t m (without p bs)
+unfolding without
+without-proper p none = none
+without-proper {t} {m} p (more {b} {bs} a d r) = go (without-proper p r) (eqb (b .start) p)
+  where
+    go : Proper t m (without p bs) → (u : Bool) → Proper t m (cond u (without p bs) (b ∷ without p bs))
+    go ih true = ih
+    go ih false = more a (λ q h. without-none r p q (d q h)) ih
+
+-- ---- a pair added at the end
+
+pub added-in : (bs : List Block) (c : Block) (q : ℕ) → referentOf bs q ≡ Missing → holds c q ≡ true → referentOf (bs ++ (c ∷ [])) q ≡ Found (c .start) (c .order)
+unfolding referentOf
+added-in [] c q n h = rw h
+added-in (b ∷ bs) c q n h = go (holds b q) refl n (added-in bs c q)
+  where
+    go : (u : Bool) → holds b q ≡ u → cond u (Found (b .start) (b .order)) (referentOf bs q) ≡ Missing
+        → (referentOf bs q ≡ Missing → holds c q ≡ true → referentOf (bs ++ (c ∷ [])) q ≡ Found (c .start) (c .order))
+        → cond u (Found (b .start) (b .order)) (referentOf (bs ++ (c ∷ [])) q) ≡ Found (c .start) (c .order)
+    go true w k ih = found-not-missing k refl
+    go false w k ih = ih k h
+
+pub added-out : (bs : List Block) (c : Block) (q : ℕ) → holds c q ≡ false → referentOf (bs ++ (c ∷ [])) q ≡ referentOf bs q
+unfolding referentOf
+added-out [] c q h = rw h
+added-out (b ∷ bs) c q h = rw (added-out bs c q h)
+
+pub added-proper : {t m : ℕ} {bs : List Block} (c : Block) → Proper t m bs → Aligned t m c → ((q : ℕ) → holds c q ≡ true → referentOf bs q ≡ Missing) → Proper t m (bs ++ (c ∷ []))
+unfolding referentOf
+added-proper c none a f = more a (λ q h. refl) none
+added-proper {t} {m} c (more {b} {bs} x d p) a f =
+    more x (λ q h. added-out bs c q (apart q h) ∙ d q h) (added-proper c p a (λ q h. later q h))
+  where
+    apart : (q : ℕ) → holds b q ≡ true → holds c q ≡ false
+    apart q h = go (holds c q) refl
+      where
+        go : (u : Bool) → holds c q ≡ u → u ≡ false
+        go true k = let n : referentOf (b ∷ bs) q ≡ Found (b .start) (b .order) = rw h in found-not-missing (f q k) n
+        go false k = refl
+    later : (q : ℕ) → holds c q ≡ true → referentOf bs q ≡ Missing
+    later q h = go (holds b q) refl (f q h)
+      where
+        go : (u : Bool) → holds b q ≡ u → cond u (Found (b .start) (b .order)) (referentOf bs q) ≡ Missing → referentOf bs q ≡ Missing
+        go true k n = found-not-missing n refl
+        go false k n = n

@@ -1,0 +1,5 @@
+pub mod Ledgers
+pub mod Runs
+pub mod Histories
+pub mod Demand3
+pub mod Replaying

@@ -1,0 +1,1 @@
+// A list of calls from a fresh heap, replayed.
