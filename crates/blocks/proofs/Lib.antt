@@ -6,3 +6,7 @@ pub mod Checks
 pub mod Tables
 pub mod Slots
 pub mod Referents
+pub mod Runs
+pub mod Halves
+pub mod Parts
+pub mod Places

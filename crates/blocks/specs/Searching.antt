@@ -1,7 +1,7 @@
 -- What the search by halves says of a part of the arena. The contracts of its helpers cite these; the search's own cites `placeIn` alone.
 use Prim.Native.Nat.{ℕ, _-_, _^_}
 use mathlib.Core.Bool.{Bool, true, false, cond}
-use lib.Dec.{leb, ltb}
+use lib.Dec.{ltb}
 use Rattle.blocks.specs.Placing.{allFree, placeIn}
 use Rattle.blocks.specs.declared.Place.{Place}
 use Rattle.blocks.specs.declared.Place.the-variants.{At, Nothing}
@@ -16,10 +16,10 @@ abbrev pub isFree : Part → Bool
 isFree Free = true
 isFree (Rest x) = false
 
--- the place in a part of order k that begins at the slot `from`
-abbrev pub placeOf : Part → ℕ → ℕ → ℕ → Place
-placeOf Free from k e = cond (leb e k) (At from k) Nothing
-placeOf (Rest x) from k e = x
+-- the place in a part of order k, at least that which is sought, that begins at the slot `from`
+abbrev pub placeOf : Part → ℕ → ℕ → Place
+placeOf Free from k = At from k
+placeOf (Rest x) from k = x
 
 -- of two places the one of the smaller order, and the first of equals
 abbrev pub smallerOf : Place → Place → Place

@@ -1,12 +1,14 @@
 // Aligned blocks and their table: the damage scan, a pointer's referent, the check of a step, and the search for a free range.
 ghost use mathlib.Core.Path.{_≡_};
-ghost use mathlib.Core.Bool.{false};
+ghost use mathlib.Core.Bool.{false, _&&_};
 ghost use lib.ListN.{length};
 ghost use Prim.Native.Nat.{_+_, _-_, _^_, _≤_, _<_};
 ghost use Rattle.blocks.specs.Blocks.{floor, holds};
 ghost use Rattle.blocks.specs.Orders.{orderOf, neededOrder};
 ghost use Rattle.blocks.specs.Seeking.{fromZero};
-ghost use Rattle.blocks.specs.Tables.{damagedBy, referentIn};
+ghost use Rattle.blocks.specs.Tables.{damagedBy, freeIn, referentIn};
+ghost use Rattle.blocks.specs.Placing.{allFree, placeIn};
+ghost use Rattle.blocks.specs.Searching.{partIn, isFree, placeOf, smallerOf};
 ghost use Rattle.blocks.specs.Pointers.{sought, referentAt, marked, address, exactSum, wrappedSum, checkBits, within};
 
 // The block that a pointer refers to, by its start and order.
@@ -48,6 +50,14 @@ pub fn size_of(e: u32) -> u32
     ensures { λ r. ⌜ r ≡ 2 ^ e ⌝ }
 {
     1u32 << e
+}
+
+// How many slots of 16 bytes a block of order e has.
+pub fn slots_of(e: u32) -> usize
+    requires { ⌜ (4 ≤ e) × (e ≤ 16) ⌝ }
+    ensures { λ r. ⌜ r ≡ 2 ^ (e - 4) ⌝ }
+{
+    size_of(e - 4) as usize
 }
 
 // The order that a get of n bytes needs in an arena of order m.
@@ -145,4 +155,129 @@ pub fn referent_of(table: &[u8], m: u32, p: u32) -> Referent
     ensures { λ r. ⌜ r ≡ referentAt (referentIn 4 (now (table .entry))) (sought 4 p) ⌝ }
 {
     referent_at(table, m, sought_address(p))
+}
+
+// Whether the table of an arena of order m is damaged. A block that is found whole is passed whole, so that each slot is
+// looked at once, or twice where it is the first of a block.
+pub fn damaged(table: &[u8], m: u32) -> bool
+    requires { ⌜ (4 ≤ m) × (m ≤ 16) × (length (now table) ≡ 2 ^ (m - 4)) ⌝ }
+    ensures { λ r. ⌜ r ≡ damagedBy 4 m (now (table .entry)) ⌝ }
+{
+    let mut found = false;
+    let mut i = 0usize;
+    'scan: while i < table.len() {
+        let e = wide(table[i]);
+        if e == 0 {
+            i += 1;
+            continue 'scan;
+        }
+        if e < 4 {
+            found = true;
+            break 'scan;
+        }
+        if m < e {
+            found = true;
+            break 'scan;
+        }
+        let slots = slots_of(e);
+        let from = i / slots * slots;
+        let to = from + slots;
+        let mut k = from;
+        'block: while k < to {
+            if wide(table[k]) != e {
+                found = true;
+                break 'scan;
+            }
+            k += 1;
+        }
+        i = to;
+    }
+    found
+}
+
+// Whether the n slots from `from` on are all free.
+fn all_free(table: &[u8], from: usize, n: usize) -> bool
+    requires { ⌜ from + n ≤ length (now table) ⌝ }
+    ensures { λ r. ⌜ r ≡ allFree (freeIn (now (table .entry))) from n ⌝ }
+{
+    let mut i = 0usize;
+    while i < n {
+        if table[from + i] != 0 {
+            return false;
+        }
+        i += 1;
+    }
+    true
+}
+
+fn both_free(left: Part, right: Part) -> bool
+    ensures { λ r. ⌜ r ≡ isFree left && isFree right ⌝ }
+{
+    match left {
+        Part::Rest(_) => false,
+        Part::Free => match right {
+            Part::Rest(_) => false,
+            Part::Free => true,
+        },
+    }
+}
+
+// The place in a part of order k that begins at the slot `from`, by what the search says of it.
+fn place_of(part: Part, from: usize, k: u32) -> Place
+    ensures { λ r. ⌜ r ≡ placeOf part from k ⌝ }
+{
+    match part {
+        Part::Rest(place) => place,
+        Part::Free => Place::At {
+            slot: from,
+            order: k,
+        },
+    }
+}
+
+// Of the places in two halves: that of the smaller order, and the left one of two equal orders.
+fn smaller(left: Place, right: Place) -> Place
+    ensures { λ r. ⌜ r ≡ smallerOf left right ⌝ }
+{
+    match left {
+        Place::Nothing => right,
+        Place::At { slot: _, order } => match right {
+            Place::Nothing => left,
+            Place::At {
+                slot: _,
+                order: other,
+            } => if other < order { right } else { left },
+        },
+    }
+}
+
+// What there is for a block of order e in the part of order k that begins at the slot `from`. A part of order e is tested as one run, because
+// nothing below it can take the block; so no slot is read twice.
+fn search(table: &[u8], from: usize, k: u32, e: u32) -> Part
+    requires { ⌜ (4 ≤ e) × (e ≤ k) × (k ≤ 16) × (from + 2 ^ (k - 4) ≤ length (now table)) ⌝ }
+    ensures { λ r. ⌜ r ≡ partIn (freeIn (now (table .entry))) 4 from k e ⌝ }
+{
+    if k == e {
+        if all_free(table, from, slots_of(k)) {
+            return Part::Free;
+        }
+        return Part::Rest(Place::Nothing);
+    }
+    let half = slots_of(k - 1);
+    let left = search(table, from, k - 1, e);
+    let right = search(table, from + half, k - 1, e);
+    if both_free(left, right) {
+        return Part::Free;
+    }
+    let l = place_of(left, from, k - 1);
+    let r = place_of(right, from + half, k - 1);
+    Part::Rest(smaller(l, r))
+}
+
+// The place for a block of order e in an arena of order m: the maximal free range of the smallest order that is at least e, of equals the lowest.
+pub fn find_place(table: &[u8], m: u32, e: u32) -> Place
+    requires { ⌜ (4 ≤ e) × (e ≤ m) × (m ≤ 16) × (length (now table) ≡ 2 ^ (m - 4)) ⌝ }
+    ensures { λ r. ⌜ r ≡ placeIn (freeIn (now (table .entry))) 4 0 m e ⌝ }
+{
+    place_of(search(table, 0, m, e), 0, m)
 }

@@ -2,4 +2,9 @@
 pub mod Agreement
 pub mod Live
 pub mod Pairs
+pub mod Tables
+pub mod Simulation
+pub mod Runs
 pub mod Checking
+pub mod Room
+pub mod Demand3

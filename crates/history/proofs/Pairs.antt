@@ -1,20 +1,18 @@
 -- The pairs of a ledger: aligned blocks that stand apart, and the referent that they give an address. t is the smallest order.
-use Prim.Native.Nat.{ℕ, zero, suc, _+_, _-_, _*_, _/_, _^_, _≤_, _<_}
+use Prim.Native.Nat.{ℕ, _+_, _-_, _*_, _^_, _≤_, _<_}
 use mathlib.Core.Path.{_≡_, refl, sym, _∙_, ap, subst}
-use mathlib.Core.Bool.{Bool, true, false, cond, _&&_, false≢true}
+use mathlib.Core.Bool.{Bool, true, false, cond, false≢true}
 use mathlib.Core.Logic.{_⊎_, inl, inr}
 use mathlib.Core.List.{List, [], _∷_, _++_, List·Memᴰ, List·Memᴰ·head, List·Memᴰ·tail}
 use native.Mathlib.Omega.{arith}
-use native.Mathlib.Nat.{mul-assoc, add-mul, mul-le-mul-right, mul-lt-mul-of-pos-right, le-of-mul-le-mul-right, lt-of-mul-lt-mul-right}
-use lib.Dec.{leb, ltb, eqb}
-use lib.Pow.{pow-pos, shr-mono, shl-shr}
-use borrow.Author.Tests.{ltb-true, ltb-false, leb-true, lt-ltb, le-leb, eqb-true, eqb-false}
-use Rattle.blocks.specs.Blocks.{base, floor, Block, holds, Aligned, missing}
+use lib.Dec.{leb, eqb}
+use borrow.Author.Tests.{ltb-true, leb-true, lt-ltb, le-leb, eqb-true, eqb-false}
+use Rattle.blocks.specs.Blocks.{base, Block, holds, Aligned, missing}
 use Rattle.blocks.specs.Sets.{referentOf, BlockSet}
 use Rattle.blocks.specs.declared.Referent.{Referent}
 use Rattle.blocks.specs.declared.Referent.the-variants.{Missing, Found}
 use Rattle.blocks.proofs.Booleans.{and-left, and-right, and-both, true-together}
-use Rattle.blocks.proofs.Floors.{floor-le, lt-floor, pow-split}
+use Rattle.blocks.proofs.Slots.{slotOf, slot-start, Slots, slots-of, held-slots, slots-held}
 use Rattle.history.specs.Ledgers.{without}
 use Rattle.history.proofs.Agreement.{Proper, none, more}
 
@@ -35,101 +33,53 @@ held-high b q h = ltb-true q (b .start + 2 ^ b .order) (and-right (leb (b .start
 pub holds-by : (b : Block) (q : ℕ) → b .start ≤ q → q < b .start + 2 ^ b .order → holds b q ≡ true
 holds-by b q x y = and-both (le-leb (b .start) q x) (lt-ltb q (b .start + 2 ^ b .order) y)
 
-pub holds-not : (b : Block) (q : ℕ) → (b .start ≤ q → q < b .start + 2 ^ b .order → ⊥) → holds b q ≡ false
-holds-not b q n = go (holds b q) refl
-  where
-    go : (t : Bool) → holds b q ≡ t → t ≡ false
-    go true k = absurd (n (held-low b q k) (held-high b q k))
-    go false k = refl
-
 -- the first address of q's slot
-abbrev pub slotOf : ℕ → ℕ → ℕ
-slotOf t q = base + floor t (q - base)
-
--- a multiple of 2 ^ t is at most q where it is at most q's floor
-multiple-le : (t n q : ℕ) → n * 2 ^ t ≤ q → n * 2 ^ t ≤ floor t q
-unfolding floor
-multiple-le t n q h = mul-le-mul-right (2 ^ t) (rw (shl-shr n t) at (shr-mono t h))
-
--- a block in slots: its first slot and how many it has
-pub record InSlots (t m s e : ℕ) : Type 0 where
-  pub first : ℕ
-  pub start : s ≡ base + first * 2 ^ t
-
-  pub ends : s + 2 ^ e ≡ base + (first + 2 ^ (e - t)) * 2 ^ t
-  pub within : first + 2 ^ (e - t) ≤ 2 ^ (m - t)
-  pub index : ℕ
-  pub aligned : first ≡ index * 2 ^ (e - t)
-
-pub in-slots : (t m s e : ℕ) → Aligned t m (block s e) → InSlots t m s e
-in-slots t m s e a =
-    let i : ℕ = a .index in
-    let low : t ≤ e = a .low in
-    let high : e ≤ m = a .high in
-    let k : 2 ^ e ≡ 2 ^ (e - t) * 2 ^ t = pow-split t e low in
-    let n : 2 ^ m ≡ 2 ^ (m - t) * 2 ^ t = pow-split t m (omega arith) in
-    let p : s ≡ base + i * 2 ^ e = a .place in
-    let f : i * 2 ^ e ≡ i * 2 ^ (e - t) * 2 ^ t = ap (λ (x : ℕ). i * x) k ∙ sym (mul-assoc i (2 ^ (e - t)) (2 ^ t)) in
-    let d : (i * 2 ^ (e - t) + 2 ^ (e - t)) * 2 ^ t ≡ i * 2 ^ (e - t) * 2 ^ t + 2 ^ (e - t) * 2 ^ t = add-mul (i * 2 ^ (e - t)) (2 ^ (e - t)) (2 ^ t) in
-    let w : s + 2 ^ e ≤ base + 2 ^ m = a .inside in
-    let l : (i * 2 ^ (e - t) + 2 ^ (e - t)) * 2 ^ t ≤ 2 ^ (m - t) * 2 ^ t = omega arith in
-    record
-    { first = i * 2 ^ (e - t)
-    ; start = omega arith
-    ; ends = omega arith
-    ; within = le-of-mul-le-mul-right l (pow-pos t)
-    ; index = i
-    ; aligned = refl
-    }
-
--- a block holds a slot's first address where the slot is one of the block's
-module _ {t m s e : ℕ} (z : InSlots t m s e) (j : ℕ) where
-  pub slot-low : s ≤ base + j * 2 ^ t → z .first ≤ j
-  slot-low h = let a : s ≡ base + z .first * 2 ^ t = z .start in let l : z .first * 2 ^ t ≤ j * 2 ^ t = omega arith in le-of-mul-le-mul-right l (pow-pos t)
-
-  pub slot-high : base + j * 2 ^ t < s + 2 ^ e → j < z .first + 2 ^ (e - t)
-  slot-high h =
-      let a : s + 2 ^ e ≡ base + (z .first + 2 ^ (e - t)) * 2 ^ t = z .ends in
-      let l : j * 2 ^ t < (z .first + 2 ^ (e - t)) * 2 ^ t = omega arith in lt-of-mul-lt-mul-right (2 ^ t) l
-
-  pub low-slot : z .first ≤ j → s ≤ base + j * 2 ^ t
-  low-slot h = let a : s ≡ base + z .first * 2 ^ t = z .start in let l : z .first * 2 ^ t ≤ j * 2 ^ t = mul-le-mul-right (2 ^ t) h in omega arith
-
-  pub high-slot : j < z .first + 2 ^ (e - t) → base + j * 2 ^ t < s + 2 ^ e
-  high-slot h =
-      let a : s + 2 ^ e ≡ base + (z .first + 2 ^ (e - t)) * 2 ^ t = z .ends in
-      let l : j * 2 ^ t < (z .first + 2 ^ (e - t)) * 2 ^ t = mul-lt-mul-of-pos-right h (pow-pos t) in omega arith
+abbrev pub slotAddress : ℕ → ℕ → ℕ
+slotAddress t q = base + slotOf t q * 2 ^ t
 
 -- a block holds an address where it holds the first of its slot
-holds-slot : {t m : ℕ} (b : Block) → Aligned t m b → (q : ℕ) → base ≤ q → holds b q ≡ holds b (slotOf t q)
-holds-slot {t} {m} b a q h =
-    true-together (holds b q) (holds b (slotOf t q))
-    (λ u. let lo : b .start ≤ q = held-low b q u in let hi : q < b .start + 2 ^ b .order = held-high b q u in holds-by b (slotOf t q) (omega (arith, st, up (z .first) (omega (arith, st)))) (omega (arith, down)))
-    (λ u. let lo : b .start ≤ slotOf t q = held-low b (slotOf t q) u in holds-by b q (omega (arith, down)) (below (held-high b (slotOf t q) u)))
+holds-slot : {t m : ℕ} (b : Block) → Aligned t m b → (q : ℕ) → base ≤ q → holds b q ≡ holds b (slotAddress t q)
+holds-slot {t} {m} b a q h = true-together (holds b q) (holds b (slotAddress t q)) there back
   where
-    z : InSlots t m (b .start) (b .order)
-    z = in-slots t m (b .start) (b .order) a
-    st : b .start ≡ base + z .first * 2 ^ t
-    st = z .start
-    en : b .start + 2 ^ b .order ≡ base + (z .first + 2 ^ (b .order - t)) * 2 ^ t
-    en = z .ends
-    down : floor t (q - base) ≤ q - base
-    down = floor-le t (q - base)
-    up : (n : ℕ) → n * 2 ^ t ≤ q - base → n * 2 ^ t ≤ floor t (q - base)
-    up n = multiple-le t n (q - base)
-    below : slotOf t q < b .start + 2 ^ b .order → q < b .start + 2 ^ b .order
-    below u = go (ltb q (b .start + 2 ^ b .order)) refl
-      where
-        go : (x : Bool) → ltb q (b .start + 2 ^ b .order) ≡ x → q < b .start + 2 ^ b .order
-        go true k = ltb-true _ _ k
-        go false k =
-            let v : b .start + 2 ^ b .order ≤ q = ltb-false _ _ k in
-            absurd (omega (arith, en, up (z .first + 2 ^ (b .order - t)) (omega (arith, en))))
+    z : Slots t m b
+    z = slots-of t m b a
 
-pub referent-slot : {t m : ℕ} {bs : List Block} → Proper t m bs → (q : ℕ) → base ≤ q → referentOf bs q ≡ referentOf bs (slotOf t q)
+    same : slotOf t (slotAddress t q) ≡ slotOf t q
+    same = slot-start t (slotOf t q)
+
+    there : holds b q ≡ true → holds b (slotAddress t q) ≡ true
+    there u =
+        let i = held-slots t m b z q u in
+        slots-held t m b z (slotAddress t q) (record { past = omega arith; low = omega (arith, same, i .low); high = omega (arith, same, i .high) })
+
+    back : holds b (slotAddress t q) ≡ true → holds b q ≡ true
+    back u =
+        let i = held-slots t m b z (slotAddress t q) u in
+        slots-held t m b z q (record { past = h; low = omega (arith, same, i .low); high = omega (arith, same, i .high) })
+
+pub referent-slot : {t m : ℕ} {bs : List Block} → Proper t m bs → (q : ℕ) → base ≤ q → referentOf bs q ≡ referentOf bs (slotAddress t q)
 unfolding referentOf
 referent-slot none q h = refl
 referent-slot (more {b} {bs} a d p) q h = rw (holds-slot b a q h, referent-slot p q h)
+
+-- ---- free slots
+
+pub missing-true : (x : Referent) → missing x ≡ true → x ≡ Missing
+missing-true Missing h = refl
+missing-true (Found s e) h = absurd (false≢true h)
+
+-- no block of bs holds slot i
+abbrev pub unheld : ℕ → List Block → ℕ → Bool
+unheld t bs i = missing (referentOf bs (base + i * 2 ^ t))
+
+-- where each slot of a block is free, no address of it has a referent
+pub free-slots : {t m : ℕ} {bs : List Block} → Proper t m bs → (b : Block) (z : Slots t m b) → ((i : ℕ) → i < 2 ^ (b .order - t) → unheld t bs (z .first + i) ≡ true)
+    → (q : ℕ) → holds b q ≡ true → referentOf bs q ≡ Missing
+free-slots {t} {m} {bs} p b z f q h =
+    let s = held-slots t m b z q h in
+    let e : z .first + (slotOf t q - z .first) ≡ slotOf t q = omega (arith, s .low) in
+    referent-slot p q (s .past)
+    ∙ missing-true _ (subst (λ (i : ℕ). unheld t bs i ≡ true) e (f (slotOf t q - z .first) (omega (arith, s .low, s .high))))
 
 -- ---- the block found at an address
 
@@ -178,6 +128,7 @@ outside {t} {m} {bs} p q o = go (referentOf bs q) refl
     no s e f (inr h) =
         let i : s + 2 ^ e ≤ base + 2 ^ m = f .aligned .inside in
         let j : q < s + 2 ^ e = held-high (block s e) q (f .held) in omega arith
+
     go : (x : Referent) → referentOf bs q ≡ x → x ≡ Missing
     go Missing h = refl
     go (Found s e) h = absurd (no s e (found p s e q h) o)
@@ -201,9 +152,9 @@ member-found (more {b = c} {bs} a d p) b (List·Memᴰ·tail i) q h = go (holds 
 
 pub proper-set : {t m : ℕ} {bs : List Block} → Proper t m bs → BlockSet t m bs
 proper-set {t} {m} {bs} p =
-    record
-    { aligned = member-aligned p
-    ; apart = λ b c i j q h k. same b c (sym (member-found p b i q h) ∙ member-found p c j q k)
+    record {
+      aligned = member-aligned p;
+      apart = λ b c i j q h k. same b c (sym (member-found p b i q h) ∙ member-found p c j q k);
     }
   where
     same : (b c : Block) → Found (b .start) (b .order) ≡ Found (c .start) (c .order) → b ≡ c
@@ -290,6 +241,7 @@ added-proper {t} {m} c (more {b} {bs} x d p) a f =
         go : (u : Bool) → holds c q ≡ u → u ≡ false
         go true k = let n : referentOf (b ∷ bs) q ≡ Found (b .start) (b .order) = rw h in found-not-missing (f q k) n
         go false k = refl
+
     later : (q : ℕ) → holds c q ≡ true → referentOf bs q ≡ Missing
     later q h = go (holds b q) refl (f q h)
       where

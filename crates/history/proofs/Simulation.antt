@@ -1,0 +1,286 @@
+-- One call: a heap and a ledger that agree look alike to every rule, answer alike, and agree again.
+use Prim.Native.Nat.{ℕ, zero, suc, _+_, _-_, _*_, _%_, _^_, _≤_, _<_}
+use mathlib.Core.Path.{_≡_, refl, sym, _∙_, ap, subst, fun-ext}
+use mathlib.Core.Bool.{Bool, true, false, not, cond, _&&_, false≢true}
+use mathlib.Core.List.{List, [], _∷_, _++_}
+use native.Mathlib.Omega.{arith}
+use native.Mathlib.Nat.{mul-assoc, zero-add}
+use lib.Dec.{leb, ltb, eqb}
+use lib.IntN.{ℤ, pos, negsuc, natAbs, pos-ne-negsuc}
+use lib.ListN.{length, getD, set, replicate, length-set, length-replicate}
+use lib.Pow.{pow-pos, pow-add, pow-mono}
+use borrow.Author.Tests.{ltb-true, ltb-false, le-leb, eqb-true, eq-eqb, not-false}
+use Rattle.common.specs.Refusals.{Refusal, _when_, first}
+use Rattle.common.specs.Bytes.{over, bytesOf, copied}
+use Rattle.common.proofs.Bytes.{length-over, length-bytesOf}
+use Rattle.blocks.specs.Blocks.{base, floor, Block, holds, Aligned, missing, orderIn, leftIn}
+use Rattle.blocks.specs.Tables.{damagedBy, freeIn, referentIn}
+use Rattle.blocks.specs.Sets.{referentOf}
+use Rattle.blocks.specs.Pointers.{markBit, marked, address, sought, referentAt, exactSum, wrappedSum, checkBits, within}
+use Rattle.blocks.specs.Orders.{neededOrder}
+use Rattle.blocks.specs.declared.Place.{Place}
+use Rattle.blocks.specs.declared.Place.the-variants.{At, Nothing}
+use Rattle.blocks.specs.declared.Referent.{Referent}
+use Rattle.blocks.specs.declared.Referent.the-variants.{Missing, Found}
+use Rattle.blocks.proofs.Booleans.{and-left, and-right, and-both, or-false-right}
+use Rattle.blocks.proofs.Floors.{floor-base, pow-split}
+use Rattle.blocks.proofs.Checks.{check-exact}
+use Rattle.blocks.proofs.Orders.{Needed, needed-order}
+use Rattle.blocks.proofs.Slots.{Slots, aligned-by}
+use Rattle.blocks.proofs.Places.{range-inside, FreePlace, place-sound}
+use Rattle.heap.specs.Views.{View, slotOrder, referentOfPointer, placeFor, noPlace, placeAddress}
+use Rattle.heap.specs.Rules.{rules, argumentRules, stateRules, not-start}
+use Rattle.heap.specs.Effects.{copyCount, fillCount, value, stored, cleared, settled, judged}
+use Rattle.heap.specs.Heaps.{Heap, heapOf, insideByCheck, heapView, stamped, entered, heapStep}
+use Rattle.heap.specs.declared.Call.{Call}
+use Rattle.heap.specs.declared.Call.the-variants.{Get, Give, Step, Read, Write, Left, Copy, Fill}
+use Rattle.history.specs.Ledgers.{Ledger, ledgerView, without, kept, ledgerStep}
+use Rattle.history.proofs.Agreement.{Proper, Agree, Same}
+use Rattle.history.proofs.Pairs.{block, held-low, held-high, holds-by, Held, found, whole, unheld, free-slots, without-in, without-out, without-proper, added-in, added-out, added-proper}
+use Rattle.history.proofs.Tables.{length-table, stamped-table, floor-found, free-same, referent-same, table-undamaged}
+
+-- ---- the two views
+
+-- a marked pointer's referent is sought at most a slot away from its address
+sought-near : (t p h : ℕ) → sought t p ≡ pos h → address p ≤ h + 2 ^ t
+unfolding sought
+sought-near t p h e = go (marked p) (ltb (address p % 2 ^ t) (2 ^ (t - 1))) (ltb (address p) (2 ^ t)) refl e
+  where
+    go : (u v w : Bool) → marked p ≡ u → cond u (cond v (cond w (negsuc (2 ^ t - suc (address p))) (pos (address p - 2 ^ t))) (pos (address p + 2 ^ t))) (pos p) ≡ pos h → address p ≤ h + 2 ^ t
+    go true true true x k = absurd (pos-ne-negsuc h _ (sym k))
+    go true true false x k = let z : address p - 2 ^ t ≡ h = ap natAbs k in omega arith
+    go true false w x k = let z : address p + 2 ^ t ≡ h = ap natAbs k in omega arith
+    go false v w x k =
+        let z : p ≡ h = ap natAbs k in
+        let y : address p ≡ p = ap (λ (u : Bool). cond u (p - markBit) p) x in omega arith
+
+module _ {m : ℕ} {bs : List Block} (top : m ≤ 16) (proper : Proper slotOrder m bs) (p i : ℕ) where
+  -- the check of the wrapped sum, by the referent's order, tells whether the exact sum lies in the referent
+  inside-same : insideByCheck (referentAt (referentOf bs) (sought slotOrder p)) p i ≡ within (referentAt (referentOf bs) (sought slotOrder p)) (exactSum (address p) i)
+  unfolding insideByCheck within
+  inside-same = go (sought slotOrder p) refl
+    where
+      at : (h : ℕ) → sought slotOrder p ≡ pos h → (x : Referent) → referentOf bs h ≡ x → insideByCheck x p i ≡ within x (exactSum (address p) i)
+      at h e Missing k = refl
+      at h e (Found s o) k =
+          let f : Held slotOrder m s o h = found proper s o h k in
+          let lo : s ≤ h = held-low (block s o) h (f .held) in
+          let hi : h < s + 2 ^ o = held-high (block s o) h (f .held) in
+          let st : s ≡ base + f .aligned .index * 2 ^ o = f .aligned .place in
+          let ins : s + 2 ^ o ≤ base + 2 ^ m = f .aligned .inside in
+          let om : o ≤ m = f .aligned .high in
+          let size : 2 ^ m ≤ 2 ^ 16 = pow-mono top in
+          let near : address p ≤ h + 16 = sought-near slotOrder p h e in
+          let fl : floor o h ≡ s = floor-base o h (omega arith) (omega arith) ∙ floor-found s o h f in
+          ap (λ (x : ℕ). checkBits o x (wrappedSum (address p) i)) (ap natAbs e)
+          ∙ (check-exact o h (address p) i (omega arith) (omega arith) (omega arith) ∙ ap (λ (x : ℕ). within (Found x o) (exactSum (address p) i)) fl)
+
+      go : (z : ℤ) → sought slotOrder p ≡ z → insideByCheck (referentAt (referentOf bs) z) p i ≡ within (referentAt (referentOf bs) z) (exactSum (address p) i)
+      go (pos h) e = at h e (referentOf bs h) refl
+      go (negsuc n) e = refl
+
+pub view-same : (m : ℕ) → 5 ≤ m → m ≤ 16 → (h : Heap) (l : Ledger) → Agree m h l → heapView m h ≡ ledgerView l
+view-same m five top h l g =
+    let four : slotOrder ≤ m = omega arith in
+    let one : 1 ≤ slotOrder = omega arith in
+    let s : length (h .table) ≡ 2 ^ (m - slotOrder) = ap length (g .table) ∙ length-table slotOrder m (l .pairs) in
+    let a : not (leb 5 m && (leb m 16 && (eqb (length (h .arena)) (2 ^ m) && eqb (length (h .table)) (2 ^ (m - slotOrder))))) ≡ false =
+    ap not (and-both (le-leb 5 m five) (and-both (le-leb m 16 top) (and-both (eq-eqb _ _ (g .size)) (eq-eqb _ _ s)))) in
+    let d : damagedBy slotOrder m (h .table) ≡ false = ap (damagedBy slotOrder m) (g .table) ∙ table-undamaged one four (g .proper) in
+    let f : (i : ℕ) → freeIn (h .table) i ≡ missing (referentOf (l .pairs) (base + i * 2 ^ slotOrder)) = λ i. ap (λ (x : List ℕ). freeIn x i) (g .table) ∙ free-same one four (g .proper) i in
+    let r : referentIn slotOrder (h .table) ≡ referentOf (l .pairs) = fun-ext (λ q. ap (λ (x : List ℕ). referentIn slotOrder x q) (g .table) ∙ referent-same one four (g .proper) q) in
+    let n : (p i : ℕ) → insideByCheck (referentAt (referentIn slotOrder (h .table)) (sought slotOrder p)) p i ≡ within (referentAt (referentOf (l .pairs)) (sought slotOrder p)) (exactSum (address p) i) =
+    λ p i. ap (λ (x : ℕ → Referent). insideByCheck (referentAt x (sought slotOrder p)) p i) r ∙ inside-same top (g .proper) p i in
+    λ i. record { wrong-sizes = a i; damaged = d i; free = λ j. f j i; referent = r i; inside = λ p k. n p k i }
+
+-- ---- what it means that no refusal of a list applies
+
+-- the condition of the number k in the list
+abbrev condOf : ℕ → List Refusal → Bool
+condOf k [] = false
+condOf k ((n when b) ∷ rs) = cond (eqb n k) b (condOf k rs)
+
+abbrev positive : List Refusal → Bool
+positive [] = true
+positive ((n when b) ∷ rs) = ltb 0 n && positive rs
+
+-- where none applies, the condition of each number is false, in whatever order the list has them
+clear : (rs : List Refusal) → positive rs ≡ true → first rs ≡ 0 → (k : ℕ) → condOf k rs ≡ false
+clear [] h e k = refl
+clear ((n when b) ∷ rs) h e k = go (clear rs (and-right (ltb 0 n) _ h)) b e (eqb n k)
+  where
+    go : (first rs ≡ 0 → (k : ℕ) → condOf k rs ≡ false) → (b : Bool) → cond b n (first rs) ≡ 0 → (t : Bool) → cond t b (condOf k rs) ≡ false
+    go ih true x t = let z : 0 < n = ltb-true 0 n (and-left _ _ h) in absurd (omega arith)
+    go ih false x true = refl
+    go ih false x false = ih x k
+
+-- ---- the place of a get
+
+-- the block of order e at the start of the range found is aligned, and no pair holds an address of it
+record Placed (t m : ℕ) (bs : List Block) (b : Block) : Type 0 where
+  aligned : Aligned t m b
+  free : (q : ℕ) → holds b q ≡ true → referentOf bs q ≡ Missing
+
+module _ (t m e : ℕ) (bs : List Block) (p : Proper t m bs) (low : t ≤ e) (s k : ℕ) (w : FreePlace (unheld t bs) t 0 m e s k) where
+  at : s ≡ w .number * 2 ^ (k - t)
+  at = w .start ∙ zero-add _
+
+  -- the range begins at a multiple of the block's slots, which are at most its own
+  mul : s ≡ w .number * 2 ^ (k - e) * 2 ^ (e - t)
+  mul =
+      let z : (k - e) + (e - t) ≡ k - t = omega (arith, w .low) in
+      at ∙ (ap (λ (x : ℕ). w .number * x) (ap (λ (x : ℕ). 2 ^ x) (sym z) ∙ pow-add 2 (k - e) (e - t)) ∙ sym (mul-assoc (w .number) (2 ^ (k - e)) (2 ^ (e - t))))
+
+  smaller : 2 ^ (e - t) ≤ 2 ^ (k - t)
+  smaller = pow-mono (omega (arith, w .low))
+
+  ends : s + 2 ^ (e - t) ≤ 2 ^ (m - t)
+  ends = omega (arith, at, smaller, range-inside t m k (w .number) (omega (arith, w .low)) (w .high) (w .among))
+
+  abbrev at-start : Slots t m (block (base + s * 2 ^ t) e)
+  at-start = record { first = s; start = refl; size = pow-split t e low; within = ends; index = w .number * 2 ^ (k - e); multiple = mul }
+
+  placed : Placed t m bs (block (base + s * 2 ^ t) e)
+  placed =
+      record {
+        aligned = aligned-by t m s e (w .number * 2 ^ (k - e)) low (omega (arith, w .low, w .high)) mul ends;
+        free = free-slots p (block (base + s * 2 ^ t) e) at-start (λ i l. w .free i (omega (arith, smaller)));
+      }
+
+-- ---- the calls
+
+length-copied : (b : List ℕ) (p q c : ℕ) → length (copied b p q c) ≡ length b
+unfolding copied
+length-copied b p q zero = refl
+length-copied b p q (suc c) = length-copied (set b p (getD b q 0)) (suc p) (suc q) c ∙ length-set b p (getD b q 0)
+
+module _ (m : ℕ) (big : slotOrder ≤ m) (h : Heap) (l : Ledger) (g : Agree m h l) where
+  abbrev bs : List Block
+  bs = l .pairs
+
+  arena-size : length (l .bytes) ≡ 2 ^ m
+  arena-size = ap length (sym (g .bytes)) ∙ g .size
+
+  -- the part of the referent from p on lies in the arena
+  left-fits : (p : ℕ) (x : Referent) → referentOf bs p ≡ x → missing x ≡ false → (p - base) + leftIn x p ≤ length (l .bytes)
+  left-fits p Missing q k = absurd (false≢true (sym k))
+  left-fits p (Found s e) q k =
+      let f : Held slotOrder m s e p = found (g .proper) s e p q in
+      let lo : s ≤ p = held-low (block s e) p (f .held) in
+      let hi : p < s + 2 ^ e = held-high (block s e) p (f .held) in
+      let st : s ≡ base + f .aligned .index * 2 ^ e = f .aligned .place in
+      let ins : s + 2 ^ e ≤ base + 2 ^ m = f .aligned .inside in
+      omega (arith, arena-size)
+
+  -- a plain pointer's referent is the pair that holds it
+  plain : (p : ℕ) → marked p ≡ false → referentOf bs p ≡ referentOfPointer (ledgerView l) p
+  unfolding sought
+  plain p k = rw k
+
+  -- where the bytes alone change, and alike
+  bytes-agree : (f : List ℕ → List ℕ) → length (f (l .bytes)) ≡ length (l .bytes) → Agree m (heapOf (f (h .arena)) (h .table)) (record { pairs = bs; bytes = f (l .bytes) })
+  bytes-agree f k =
+      let b : f (h .arena) ≡ f (l .bytes) = ap f (g .bytes) in
+      record { bytes = b; size = ap length b ∙ (k ∙ arena-size); table = g .table; proper = g .proper }
+
+  over-agree : (at : ℕ) (xs : List ℕ) → at + length xs ≤ length (l .bytes) → Agree m (heapOf (over (h .arena) at xs) (h .table)) (record { pairs = bs; bytes = over (l .bytes) at xs })
+  over-agree at xs f = bytes-agree (λ b. over b at xs) (length-over (l .bytes) at xs f)
+
+  give-agree : (p : ℕ) (x : Referent) → referentOf bs p ≡ x → missing x ≡ false → not-start x p ≡ false
+      → Agree m (heapOf (h .arena) (stamped (h .table) p (orderIn x) 0)) (record { pairs = without p bs; bytes = l .bytes })
+  give-agree p Missing y k n = absurd (false≢true (sym k))
+  give-agree p (Found s e) y k n =
+      let q : referentOf bs p ≡ Found p e = y ∙ ap (λ (i : ℕ). Found i e) (eqb-true s p (not-false _ n)) in
+      let f : Held slotOrder m p e p = found (g .proper) p e p q in
+      record {
+        bytes = g .bytes;
+        size = g .size;
+        table =
+            ap (λ (x : List ℕ). stamped x p e 0) (g .table)
+            ∙ stamped-table slotOrder m bs (without p bs) (block p e) (f .aligned) 0
+            (λ r k. ap orderIn (without-in (g .proper) p e r (whole (g .proper) p e p q r k)))
+            (λ r k.
+            without-out (g .proper) p r
+            (λ o y.
+            let d : Held slotOrder m p o r = found (g .proper) p o r y in
+            let lo : p ≤ r = held-low (block p o) r (d .held) in
+            let w : referentOf bs p ≡ Found p o = whole (g .proper) p o r y p (holds-by (block p o) p (omega arith) (omega (arith, pow-pos o))) in
+            let z : o ≡ e = cc in
+            false≢true (sym k ∙ subst (λ (x : ℕ). holds (block p x) r ≡ true) z (d .held))));
+        proper = without-proper p (g .proper);
+      }
+
+  get-agree : (n : ℕ) → n ≤ 2 ^ m → (x : Place) → placeFor m n (ledgerView l) ≡ x → noPlace x ≡ false
+      → Agree m
+      (heapOf (cleared (h .arena) (placeAddress x - base) (neededOrder slotOrder m n) n) (stamped (h .table) (placeAddress x) (neededOrder slotOrder m n) (neededOrder slotOrder m n)))
+      (record { pairs = bs ++ (block (placeAddress x) (neededOrder slotOrder m n) ∷ []); bytes = cleared (l .bytes) (placeAddress x - base) (neededOrder slotOrder m n) n })
+  get-agree n top Nothing q y = absurd (false≢true (sym y))
+  get-agree n top (At s k) q y =
+      let e : ℕ = neededOrder slotOrder m n in
+      let need : Needed slotOrder m n e = needed-order slotOrder m n big top in
+      let enough : n ≤ 2 ^ e = need .enough in
+      let w = place-sound (unheld slotOrder bs) slotOrder 0 m e s k (omega (arith, need .high)) q in
+      let c : Block = block (base + s * 2 ^ slotOrder) e in
+      let z : Placed slotOrder m bs c = placed slotOrder m e bs (g .proper) (need .low) s k w in
+      let ins : base + s * 2 ^ slotOrder + 2 ^ e ≤ base + 2 ^ m = z .aligned .inside in
+      let zeros : List ℕ = replicate (2 ^ e - n) 0 in
+      let at : ℕ = placeAddress (At s k) - base + n in
+      let many : length zeros ≡ 2 ^ e - n = length-replicate (2 ^ e - n) 0 in
+      let fit : at + length zeros ≤ length (l .bytes) = omega (arith, arena-size) in
+      let r = over-agree at zeros fit in
+      record {
+        bytes = r .bytes;
+        size = r .size;
+        table =
+            ap (λ (x : List ℕ). stamped x (base + s * 2 ^ slotOrder) e e) (g .table)
+            ∙ stamped-table slotOrder m bs (bs ++ (c ∷ [])) c (z .aligned) e
+            (λ a x. ap orderIn (added-in bs c a (z .free a x) x))
+            (λ a x. added-out bs c a x);
+        proper = added-proper c (g .proper) (z .aligned) (z .free);
+      }
+
+  -- an accepted call leaves the two in agreement
+  accepted-agree : (c : Call) → first (rules m c (ledgerView l)) ≡ 0
+      → Agree m (heapOf (stored m c (ledgerView l) (h .arena)) (entered m c (ledgerView l) (h .table)))
+      (record { pairs = kept m c (ledgerView l) bs; bytes = stored m c (ledgerView l) (l .bytes) })
+  unfolding rules argumentRules stateRules stored entered kept
+  accepted-agree (Get n) z =
+      let c = clear (rules m (Get n) (ledgerView l)) refl z in
+      get-agree n (ltb-false (2 ^ m) n (or-false-right (eqb n 0) _ (c 10))) (placeFor m n (ledgerView l)) refl (c 21)
+  accepted-agree (Give p) z =
+      let c = clear (rules m (Give p) (ledgerView l)) refl z in
+      give-agree p (referentOfPointer (ledgerView l) p) (plain p (c 13)) (c 22) (c 23)
+  accepted-agree (Step p i) z = g
+  accepted-agree (Read p k) z = g
+  accepted-agree (Write p k v) z =
+      let c = clear (rules m (Write p k v) (ledgerView l)) refl z in
+      let x : Referent = referentOfPointer (ledgerView l) p in
+      let f : (p - base) + leftIn x p ≤ length (l .bytes) = left-fits p x (plain p (c 13)) (c 22) in
+      let y : k ≤ leftIn x p = ltb-false (leftIn x p) k (c 25) in
+      over-agree (p - base) (bytesOf k v) (omega (arith, length-bytesOf k v))
+  accepted-agree (Left p) z = g
+  accepted-agree (Copy p q n) z =
+      let c : ℕ = copyCount (ledgerView l) p q n in
+      bytes-agree (λ b. copied b (p - base) (q - base) c) (length-copied (l .bytes) (p - base) (q - base) c)
+  accepted-agree (Fill p v n) z =
+      let c = clear (rules m (Fill p v n) (ledgerView l)) refl z in
+      let x : Referent = referentOfPointer (ledgerView l) p in
+      let f : (p - base) + leftIn x p ≤ length (l .bytes) = left-fits p x (plain p (c 13)) (c 22) in
+      over-agree (p - base) (replicate (fillCount (ledgerView l) p n) v) (omega (arith, length-replicate (fillCount (ledgerView l) p n) v))
+
+-- Both judged by one list of refusals, with one value: the rest is that accepted calls agree.
+judged-same : (m : ℕ) (h h′ : Heap) (l l′ : Ledger) → Agree m h l → (rs : List Refusal) (v v′ : ℕ) → v ≡ v′ → (first rs ≡ 0 → Agree m h′ l′) → Same m (judged rs h v h′) (judged rs l v′ l′)
+judged-same m h h′ l l′ g rs v v′ e new = go (first rs) refl
+  where
+    go : (a : ℕ) → first rs ≡ a → Same m (settled a h v h′) (settled a l v′ l′)
+    go zero x = record { answer = λ i. record { number = 0; value = e i }; agree = new x }
+    go (suc a) x = record { answer = refl; agree = g }
+
+pub step-same : (m : ℕ) → 5 ≤ m → m ≤ 16 → (h : Heap) (l : Ledger) → Agree m h l → (c : Call) → Same m (heapStep m c h) (ledgerStep m c l)
+unfolding heapStep ledgerStep
+step-same m five top h l g c =
+    let w : View = ledgerView l in
+    subst
+    (λ (u : View). Same m (judged (rules m c u) h (value m c u (h .arena)) (heapOf (stored m c u (h .arena)) (entered m c u (h .table)))) (ledgerStep m c l))
+    (sym (view-same m five top h l g))
+    (judged-same m h _ l _ g (rules m c w) (value m c w (h .arena)) (value m c w (l .bytes)) (ap (value m c w) (g .bytes)) (accepted-agree m (omega arith) h l g c))
