@@ -1,14 +1,13 @@
 -- The check by xor and shift is membership in the aligned block, and with the sum that wraps it passes for the exact sum alone.
-use Prim.Native.Nat.{ℕ, suc, _+_, _-_, _*_, _/_, _%_, _^_, _≤_, _<_}
-use mathlib.Core.Path.{_≡_, refl, sym, _∙_, ap}
-use mathlib.Core.Bool.{Bool, true, false, _&&_, and-false}
-use native.Mathlib.Nat.{mod-lt}
+use Prim.Native.Nat.{ℕ, suc, _+_, _-_, _/_, _%_, _^_, _<_}
+use mathlib.Core.Path.{_≡_, sym, _∙_, ap}
+use mathlib.Core.Bool.{true, and-false}
 use native.Mathlib.Decide.{decLt}
 use native.Mathlib.Omega.{arith}
 use borrow.Author.Tests.{lt-ltb, le-ltb, le-leb, eq-eqb, ltb-true, leb-true, eqb-true}
 use lib.Bits.{bitXor, xor-shr, xor-self, xor-add-and, and-le-l, and-le-r}
-use lib.Dec.{ltb, leb, eqb}
-use Rattle.blocks.specs.Blocks.{Block, floor, holds}
+use lib.Dec.{leb}
+use Rattle.blocks.specs.Blocks.{floor, holds}
 use Rattle.blocks.specs.Pointers.{signed, exactSum, wrappedSum, checkBits, within}
 use Rattle.blocks.specs.declared.Referent.the-variants.{Found}
 use Rattle.blocks.proofs.Booleans.{and-left, and-right, and-both, true-together}

@@ -1,5 +1,5 @@
 -- Laws of rounding down to a multiple of 2 ^ e.
-use Prim.Native.Nat.{ℕ, suc, _+_, _-_, _*_, _/_, _%_, _^_, _≤_, _<_}
+use Prim.Native.Nat.{ℕ, _+_, _-_, _*_, _/_, _^_, _≤_, _<_}
 use mathlib.Core.Path.{_≡_, refl, sym, _∙_, ap}
 use native.Mathlib.Nat.{le-trans, le-of-eq, div-mul-le-self, lt-div-mul-add, add-sub-of-le, suc-mul, add-mul, mul-le-mul-right, mul-add-div-right}
 use native.Mathlib.Omega.{arith}
@@ -7,6 +7,10 @@ use lib.Pow.{pow-pos, pow-add, shr-lt, high}
 use Rattle.blocks.specs.Blocks.{base, floor}
 
 module _ (a i : ℕ) where
+  pub floor-quotient : floor a i ≡ i / 2 ^ a * 2 ^ a
+  unfolding floor
+  floor-quotient = refl
+
   pub floor-le : floor a i ≤ i
   unfolding floor
   floor-le = div-mul-le-self i (2 ^ a)
@@ -44,3 +48,9 @@ floor-base e h le lo =
     let q : h / 2 ^ e ≡ 2 ^ (16 - e) + (h - base) / 2 ^ e =
     ap (λ (x : ℕ). x / 2 ^ e) (sym (add-sub-of-le lo) ∙ ap (λ (x : ℕ). x + (h - base)) p) ∙ mul-add-div-right (pow-pos e) (2 ^ (16 - e)) (h - base) in
     ap (λ (x : ℕ). x * 2 ^ e) q ∙ add-mul (2 ^ (16 - e)) ((h - base) / 2 ^ e) (2 ^ e) ∙ ap (λ (x : ℕ). x + (h - base) / 2 ^ e * 2 ^ e) (sym p)
+
+-- a number within 2 ^ e of a multiple rounds down to it
+pub floor-multiple : (e i x : ℕ) → i * 2 ^ e ≤ x → x < i * 2 ^ e + 2 ^ e → floor e x ≡ i * 2 ^ e
+unfolding floor
+floor-multiple e i x lo hi =
+    ap (λ (y : ℕ). y * 2 ^ e) (ap (λ (y : ℕ). y / 2 ^ e) (sym (add-sub-of-le lo)) ∙ high i e (omega arith))

@@ -10,3 +10,7 @@ pub mod Runs
 pub mod Halves
 pub mod Parts
 pub mod Places
+pub mod Sets
+pub mod SetTables
+pub mod Reading
+pub mod OneTable

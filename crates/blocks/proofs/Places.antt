@@ -2,15 +2,15 @@
 -- at least the order that is sought. `place-complete`: where there is none, no such range is free.
 use mathlib.Core.Path.{_≡_, refl, sym, ap, ap₂, subst, _∙_}
 use mathlib.Core.Bool.{Bool, true, false, cond, not, _&&_, _||_, true≢false}
-use mathlib.Core.Logic.{_⊎_, inl, inr, ⊎-elim}
+use mathlib.Core.Logic.{⊎-elim}
 use Prim.Native.Nat.{ℕ, zero, suc, _+_, _-_, _*_, _/_, _^_, _≤_, _<_}
-use native.Mathlib.Nat.{eq-or-lt-of-le, suc-mul, zero-add, mul-le-mul-right, add-mul, add-assoc}
+use native.Mathlib.Nat.{eq-or-lt-of-le, suc-mul, zero-add, mul-le-mul-right, add-assoc}
 use native.Mathlib.Omega.{arith}
 use borrow.Author.Tests.{eq-eqb}
 use lib.Dec.{eqb}
 use Rattle.blocks.specs.declared.Place.{Place}
 use Rattle.blocks.specs.declared.Place.the-variants.{At, Nothing}
-use Rattle.blocks.specs.Placing.{allFree, rangeStart, freeRange, maximal, lowest, atOrder, orElse, fromOrder, placeIn}
+use Rattle.blocks.specs.Placing.{rangeStart, freeRange, maximal, lowest, atOrder, orElse, fromOrder, placeIn}
 use Rattle.blocks.proofs.Booleans.{and-left, and-false-cases, or-right}
 use Rattle.blocks.proofs.Halves.{doubled, sizes, lowest-same}
 use Rattle.blocks.proofs.Runs.{all-same, all-at}

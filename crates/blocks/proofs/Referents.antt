@@ -1,23 +1,21 @@
 -- The referent by an undamaged table: an aligned block round the address, all of whose slots have its order, and the referent of each of its addresses.
-use Prim.Native.Nat.{ℕ, zero, suc, _+_, _-_, _*_, _/_, _%_, _^_, _≤_, _<_}
+use Prim.Native.Nat.{ℕ, zero, suc, _+_, _-_, _*_, _%_, _^_, _≤_, _<_}
 use mathlib.Core.Bool.{Bool, true, false, cond, _&&_}
 use mathlib.Core.List.{List}
 use mathlib.Core.Path.{_≡_, refl, sym, _∙_, ap, subst}
-use native.Mathlib.Nat.{add-sub-of-le}
 use native.Mathlib.Omega.{arith}
 use borrow.Author.Tests.{le-leb, lt-leb, lt-ltb, le-ltb, leb-true, ltb-true}
 use lib.Dec.{leb, ltb}
 use lib.IntN.{ℤ, pos, negsuc, subℕ}
 use lib.ListN.{length, getD}
-use Rattle.blocks.specs.Blocks.{base, floor, Block, holds, Aligned}
+use Rattle.blocks.specs.Blocks.{base, floor, Aligned}
 use Rattle.blocks.specs.Tables.{damagedBy, blockRound, referentIn}
 use Rattle.blocks.specs.Pointers.{marked, address, sought, referentAt}
 use Rattle.blocks.specs.Seeking.{fromZero}
-use Rattle.blocks.specs.declared.Referent.{Referent}
 use Rattle.blocks.specs.declared.Referent.the-variants.{Missing, Found}
 use Rattle.blocks.proofs.Booleans.{and-left, and-right, and-both}
-use Rattle.blocks.proofs.Floors.{floor-le, lt-floor, floor-same, floor-end, pow-split}
-use Rattle.blocks.proofs.Slots.{slotOf, slot-start, InSlots, floor-slots, Slots, aligned-by, held-slots}
+use Rattle.blocks.proofs.Floors.{floor-le, lt-floor, floor-same}
+use Rattle.blocks.proofs.Slots.{block, slotOf, slot-start, InSlots, floor-slots, Slots, aligned-of, slots-round, held-slots}
 use Rattle.blocks.proofs.Tables.{Whole, undamaged-whole}
 
 pub round-some : (e q : ℕ) → (e ≡ 0 → ⊥) → blockRound e q ≡ Found (base + floor e (q - base)) e
@@ -63,7 +61,7 @@ entered t s q b e h = go (leb base q && ltb (slotOf t q) (length s)) refl h
 
 -- the block of order e at b is aligned and holds q; each of its slots has the entry e, and each of its addresses the same referent
 pub record ReferentBlock (t m : ℕ) (s : List ℕ) (q b e : ℕ) : Type 0 where
-  pub aligned : Aligned t m (record { start = b; order = e })
+  pub aligned : Aligned t m (block b e)
   pub low : b ≤ q
   pub high : q < b + 2 ^ e
   pub entries : (i : ℕ) → b ≤ base + i * 2 ^ t → base + i * 2 ^ t < b + 2 ^ e → getD s i 0 ≡ e
@@ -79,43 +77,24 @@ module _ (t m : ℕ) (s : List ℕ) (len : length s ≡ 2 ^ (m - t)) (good : dam
   start-is : b ≡ base + floor (e - t) (slotOf t q) * 2 ^ t
   start-is = at-entry .rounded ∙ ap (λ (x : ℕ). base + x) (floor-slots t e (q - base) (whole .low))
 
-  ends : floor (e - t) (slotOf t q) + 2 ^ (e - t) ≤ 2 ^ (m - t)
-  ends = floor-end (e - t) (m - t) (slotOf t q) (omega (arith, whole .low, whole .high)) (rw len at (at-entry .slot))
-
-  block-aligned : Aligned t m (record { start = b; order = e })
-  unfolding floor
-  block-aligned =
-      subst (λ (x : ℕ). Aligned t m (record { start = x; order = e })) (sym start-is)
-      (aligned-by t m (floor (e - t) (slotOf t q)) e (slotOf t q / 2 ^ (e - t)) (whole .low) (whole .high) refl ends)
-
-  slots : Slots t m (record { start = b; order = e })
-  unfolding floor
-  slots =
-      record {
-        first = floor (e - t) (slotOf t q);
-        start = start-is;
-        size = pow-split t e (whole .low);
-        within = ends;
-        index = slotOf t q / 2 ^ (e - t);
-        multiple = refl;
-      }
+  abbrev slots : Slots t m (block b e)
+  slots = slots-round t m (slotOf t q) b e (whole .low) (whole .high) (rw len at (at-entry .slot)) start-is
 
   in-slots : (r : ℕ) → b ≤ r → r < b + 2 ^ e → InSlots t (floor (e - t) (slotOf t q)) (2 ^ (e - t)) r
-  unfolding slots
-  in-slots r lo hi = held-slots t m _ slots r (and-both (le-leb b r lo) (lt-ltb r (b + 2 ^ e) hi))
+  in-slots r lo hi = held-slots t m (block b e) slots r (and-both (le-leb b r lo) (lt-ltb r (b + 2 ^ e) hi))
 
   pub referent-block : ReferentBlock t m s q b e
   referent-block =
       let p : base ≤ q = at-entry .past in
       let f : b ≡ base + floor e (q - base) = at-entry .rounded in
       record {
-        aligned = block-aligned;
+        aligned = aligned-of t m (block b e) (whole .low) (whole .high) slots;
         low = omega (arith, floor-le e (q - base));
         high = omega (arith, lt-floor e (q - base));
         entries = λ i lo hi. let z = in-slots (base + i * 2 ^ t) lo hi in
             subst (λ (x : ℕ). getD s x 0 ≡ e) (slot-start t i) (whole .entries (slotOf t (base + i * 2 ^ t)) (z .low) (z .high));
         same = λ r lo hi. let z = in-slots r lo hi in
-            referent-entry t s r (z .past) (omega (arith, z .high, ends, len))
+            referent-entry t s r (z .past) (omega (arith, z .high, slots .within, len))
             ∙ ap (λ (x : ℕ). blockRound x r) (whole .entries (slotOf t r) (z .low) (z .high))
             ∙ round-some e r (at-entry .taken)
             ∙ ap (λ (x : ℕ). Found x e) (ap (λ (x : ℕ). base + x) (floor-same e (q - base) (r - base) (omega arith) (omega arith)) ∙ sym f);

@@ -1,15 +1,18 @@
 -- Aligned blocks in slots of 2 ^ t bytes.
-use Prim.Native.Nat.{ℕ, zero, suc, _+_, _-_, _*_, _/_, _^_, _≤_, _<_}
-use mathlib.Core.Bool.{true, _&&_}
+use Prim.Native.Nat.{ℕ, _+_, _-_, _*_, _/_, _^_, _≤_, _<_}
+use mathlib.Core.Bool.{true}
 use mathlib.Core.Path.{_≡_, refl, sym, _∙_, ap}
 use native.Mathlib.Nat.{add-mul, mul-assoc, mul-le-mul-right, le-of-mul-le-mul-right, le-div-iff-mul-le, div-lt-iff-lt-mul, mul-div-cancel, add-sub-cancel-left}
 use native.Mathlib.Omega.{arith}
 use borrow.Author.Tests.{le-leb, lt-ltb, leb-true, ltb-true}
-use lib.Dec.{leb, ltb}
+use lib.Dec.{leb}
 use lib.Pow.{pow-pos, shr-shr}
 use Rattle.blocks.specs.Blocks.{base, floor, Block, holds, Aligned}
 use Rattle.blocks.proofs.Booleans.{and-left, and-right, and-both}
-use Rattle.blocks.proofs.Floors.{pow-split}
+use Rattle.blocks.proofs.Floors.{floor-quotient, floor-end, pow-split}
+
+abbrev pub block : ℕ → ℕ → Block
+block s e = record { start = s; order = e }
 
 -- the slot of the address q
 abbrev pub slotOf : ℕ → ℕ → ℕ
@@ -55,18 +58,30 @@ slots-of t m b a =
       multiple = refl;
     }
 
-pub aligned-by : (t m first e index : ℕ) → t ≤ e → e ≤ m → first ≡ index * 2 ^ (e - t) → first + 2 ^ (e - t) ≤ 2 ^ (m - t)
-    → Aligned t m (record { start = base + first * 2 ^ t; order = e })
-aligned-by t m first e index lo hi mul ins =
-    let k : 2 ^ e ≡ 2 ^ (e - t) * 2 ^ t = pow-split t e lo in
+pub aligned-of : (t m : ℕ) (b : Block) → t ≤ b .order → b .order ≤ m → Slots t m b → Aligned t m b
+aligned-of t m b lo hi z =
     let n : 2 ^ m ≡ 2 ^ (m - t) * 2 ^ t = pow-split t m (omega arith) in
-    let j : (first + 2 ^ (e - t)) * 2 ^ t ≡ first * 2 ^ t + 2 ^ (e - t) * 2 ^ t = add-mul first (2 ^ (e - t)) (2 ^ t) in
+    let j : (z .first + 2 ^ (b .order - t)) * 2 ^ t ≡ z .first * 2 ^ t + 2 ^ (b .order - t) * 2 ^ t = add-mul (z .first) (2 ^ (b .order - t)) (2 ^ t) in
+    let p : z .first * 2 ^ t ≡ z .index * 2 ^ b .order =
+    ap (λ (x : ℕ). x * 2 ^ t) (z .multiple) ∙ mul-assoc (z .index) (2 ^ (b .order - t)) (2 ^ t) ∙ ap (λ (x : ℕ). z .index * x) (sym (z .size)) in
     record {
       low = lo;
       high = hi;
-      index = index;
-      place = ap (λ (x : ℕ). base + x) (ap (λ (x : ℕ). x * 2 ^ t) mul ∙ mul-assoc index (2 ^ (e - t)) (2 ^ t) ∙ ap (λ (x : ℕ). index * x) (sym k));
-      inside = omega (arith, mul-le-mul-right (2 ^ t) ins);
+      index = z .index;
+      place = z .start ∙ ap (λ (x : ℕ). base + x) p;
+      inside = omega (arith, mul-le-mul-right (2 ^ t) (z .within), z .start, z .size);
+    }
+
+-- the aligned block of order e round slot i of the arena
+abbrev pub slots-round : (t m i s e : ℕ) → t ≤ e → e ≤ m → i < 2 ^ (m - t) → s ≡ base + floor (e - t) i * 2 ^ t → Slots t m (block s e)
+slots-round t m i s e lo hi l p =
+    record {
+      first = floor (e - t) i;
+      start = p;
+      size = pow-split t e lo;
+      within = floor-end (e - t) (m - t) i (omega arith) l;
+      index = i / 2 ^ (e - t);
+      multiple = floor-quotient (e - t) i;
     }
 
 module _ (t m : ℕ) (b : Block) (z : Slots t m b) (q : ℕ) where

@@ -1,7 +1,7 @@
--- On a heap that is judged by the ledger's view: the check passes for the addresses of the block alone, and a marked pointer in reach of a block leads back to it.
+-- On a heap that agrees with a ledger: the check passes for the addresses of the block alone, and a marked pointer in reach of a block leads back to it.
 use Prim.Native.Nat.{ℕ, zero, suc, _+_, _-_, _*_, _%_, _^_, _≤_, _<_}
 use mathlib.Core.Path.{_≡_, refl, sym, _∙_, ap}
-use mathlib.Core.Bool.{Bool, true, false, _&&_, _||_}
+use mathlib.Core.Bool.{Bool, true, false, _&&_, _||_, false≢true}
 use mathlib.Core.Logic.{_⊎_, inl, inr}
 use mathlib.Core.List.{List, [], _∷_, List·Memᴰ, List·Memᴰ·head, List·Memᴰ·tail}
 use native.Mathlib.Nat.{add-sub-cancel-left, add-mul, suc-mul}
@@ -19,16 +19,19 @@ use Rattle.blocks.specs.Orders.{orderOf}
 use Rattle.blocks.specs.declared.Referent.the-variants.{Found}
 use Rattle.blocks.proofs.Booleans.{and-left, and-right}
 use Rattle.blocks.proofs.Floors.{pow-split}
+use Rattle.blocks.proofs.Sets.{held-high, missing-none}
 use Rattle.blocks.proofs.Slots.{slots-of}
 use Rattle.heap.specs.Views.{View, slotOrder}
 use Rattle.heap.specs.Rules.{rules, argumentRules, stateRules}
 use Rattle.heap.specs.Effects.{value, stored, Outcome, judged}
-use Rattle.heap.specs.Heaps.{Heap, heapOf, heapView, entered, heapStep, heapCall, heapCheck, bit}
+use Rattle.heap.specs.Heaps.{Heap, heapOf, heapView, viewOf, entered, heapStep, heapCall, heapCheck, bit}
 use Rattle.heap.specs.declared.Call.the-variants.{Step, Left}
 use Rattle.history.specs.Ledgers.{Ledger, ledgerView}
 use Rattle.history.specs.Demand3.{accepted, distance}
-use Rattle.history.proofs.Agreement.{Proper, none, more}
-use Rattle.history.proofs.Pairs.{found-not-missing, held-high, holds-by, member-found, proper-set}
+use Rattle.history.proofs.Agreement.{Proper, none, more, Agree}
+use Rattle.history.proofs.Pairs.{holds-by, member-found, proper-set}
+use Rattle.history.proofs.Simulation.{view-same}
+use Rattle.history.proofs.Runs.{order-same}
 
 -- ---- blocks apart
 
@@ -41,7 +44,7 @@ member-at (c ∷ bs) b (suc i) h = List·Memᴰ·tail (member-at bs b i (omega a
 pub places-apart : {t m : ℕ} {bs : List Block} → Proper t m bs → (i j : ℕ) (b : Block) → i < j → j < length bs → (q : ℕ) → holds (getD bs i b) q ≡ true → holds (getD bs j b) q ≡ true → ⊥
 places-apart none i j b l h q x y = omega arith
 places-apart (more a d p) i zero b l h q x y = omega arith
-places-apart (more {bs = bs} a d p) zero (suc j) b l h q x y = found-not-missing (d q x) (member-found p _ (member-at bs b j (omega arith)) q y)
+places-apart (more {bs = bs} a d p) zero (suc j) b l h q x y = false≢true (sym (missing-none bs q (d q x) _ (member-at bs b j (omega arith))) ∙ y)
 places-apart (more a d p) (suc i) (suc j) b l h q x y = places-apart p i j b (omega arith) (omega arith) q x y
 
 -- ---- marked pointers
@@ -150,14 +153,16 @@ module _ (t m : ℕ) (b : Block) (a : Aligned t m b) (slot : 1 ≤ t) (size : m 
 
 -- ---- the calls
 
-module _ (m : ℕ) (size : m ≤ 16) (h : Heap) (l : Ledger) (proper : Proper slotOrder m (l .pairs))
-    (order : orderOf (length (h .arena)) ≡ m) (view : heapView m h ≡ ledgerView l)
-    (b : Block) (member : List·Memᴰ b (l .pairs)) where
+module _ (m : ℕ) (five : 5 ≤ m) (top : m ≤ 16) (h : Heap) (l : Ledger) (agree : Agree m h l) (b : Block) (member : List·Memᴰ b (l .pairs)) where
   aligned : Aligned slotOrder m b
-  aligned = proper-set proper .aligned b member
+  aligned = proper-set (agree .proper) .aligned b member
 
   small : b .start + 2 ^ b .order ≤ 2 ^ 17
-  small = let p : 2 ^ m ≤ 2 ^ 16 = pow-mono size in omega (arith, aligned .inside)
+  small = let p : 2 ^ m ≤ 2 ^ 16 = pow-mono top in omega (arith, aligned .inside)
+
+  -- what is decided by the arena's order and the heap's view is decided by m and the ledger's
+  by-ledger : (call : ℕ → View → Outcome Heap) → call (orderOf (length (h .arena))) (viewOf h) ≡ call m (ledgerView l)
+  by-ledger call = ap (λ (n : ℕ). call n (heapView n h)) (order-same m five top h l agree) ∙ ap (call m) (view-same m five top h l agree)
 
   -- the two calls by a view
   abbrev checked : (q i n : ℕ) → View → Outcome Heap
@@ -173,27 +178,24 @@ module _ (m : ℕ) (size : m ≤ 16) (h : Heap) (l : Ledger) (proper : Proper sl
 
     check-by-ledger : (i : ℕ) → checked q i m (ledgerView l) ≡ record { answer = accepted (bit (within (Found (b .start) (b .order)) (exactSum q i))); state = h }
     unfolding rules argumentRules stateRules sought
-    check-by-ledger i = rw (lt-leb markBit q low-address, member-found proper b member q held)
+    check-by-ledger i = rw (lt-leb markBit q low-address, member-found (agree .proper) b member q held)
 
     pub check-is : (i : ℕ) → heapCheck q i h ≡ accepted (bit (within (Found (b .start) (b .order)) (exactSum q i)))
     unfolding heapCheck
     check-is i =
-        ap (λ (o : Outcome Heap). o .answer)
-        (ap (λ (n : ℕ). checked q i n (heapView n h)) order ∙ ap (checked q i m) view ∙ check-by-ledger i)
+        ap (λ (o : Outcome Heap). o .answer) (by-ledger (checked q i) ∙ check-by-ledger i)
 
     module _ (r : ℕ) (reach : inReach slotOrder (Found (b .start) (b .order)) (pos r) ≡ true) where
       back : LeadsBack slotOrder r b
-      back = leads-back slotOrder m b aligned (omega arith) size r reach
+      back = leads-back slotOrder m b aligned (omega arith) top r reach
 
       exact : exactSum (address (markBit + r)) (distance r q) ≡ pos q
       exact = ap (λ (x : ℕ). exactSum x (distance r q)) (address-mark r) ∙ exact-distance r q (omega (arith, back .near, small)) low-address
 
       step-by-ledger : stepped (markBit + r) (distance r q) m (ledgerView l) ≡ record { answer = accepted q; state = h }
       unfolding rules argumentRules stateRules value stored entered within
-      step-by-ledger = rw (back .seeks, member-found proper b member (back .at) (back .held), exact, held)
+      step-by-ledger = rw (back .seeks, member-found (agree .proper) b member (back .at) (back .held), exact, held)
 
       pub recovers : heapCall (Step (markBit + r) (distance r q)) h ≡ record { answer = accepted q; state = h }
       unfolding heapCall heapStep
-      recovers =
-          ap (λ (n : ℕ). stepped (markBit + r) (distance r q) n (heapView n h)) order
-          ∙ ap (stepped (markBit + r) (distance r q) m) view ∙ step-by-ledger
+      recovers = by-ledger (stepped (markBit + r) (distance r q)) ∙ step-by-ledger

@@ -2,69 +2,56 @@
 use Prim.Native.Nat.{ℕ, _+_, _-_, _*_, _^_, _≤_, _<_}
 use mathlib.Core.Path.{_≡_, refl, sym, _∙_, ap, subst}
 use mathlib.Core.Bool.{Bool, true, false, cond, false≢true}
-use mathlib.Core.Logic.{_⊎_, inl, inr}
 use mathlib.Core.List.{List, [], _∷_, _++_, List·Memᴰ, List·Memᴰ·head, List·Memᴰ·tail}
 use native.Mathlib.Omega.{arith}
-use lib.Dec.{leb, eqb}
-use borrow.Author.Tests.{ltb-true, leb-true, lt-ltb, le-leb, eqb-true, eqb-false}
+use lib.Dec.{eqb}
+use borrow.Author.Tests.{lt-ltb, le-leb, eqb-true, eqb-false}
 use Rattle.blocks.specs.Blocks.{base, Block, holds, Aligned, missing}
 use Rattle.blocks.specs.Sets.{referentOf, BlockSet}
 use Rattle.blocks.specs.declared.Referent.{Referent}
 use Rattle.blocks.specs.declared.Referent.the-variants.{Missing, Found}
-use Rattle.blocks.proofs.Booleans.{and-left, and-right, and-both, true-together}
-use Rattle.blocks.proofs.Slots.{slotOf, slot-start, Slots, slots-of, held-slots, slots-held}
+use Rattle.blocks.proofs.Booleans.{and-both}
+pub use Rattle.blocks.proofs.Sets.{held-high}
+use Rattle.blocks.proofs.Sets.{found-member, missing-none, member-found as set-found, referent-slot}
+use Rattle.blocks.proofs.Slots.{block, slotOf, Slots, held-slots}
 use Rattle.history.specs.Ledgers.{without}
 use Rattle.history.proofs.Agreement.{Proper, none, more}
-
-abbrev pub block : ℕ → ℕ → Block
-block s e = record { start = s; order = e }
 
 pub found-not-missing {ℓ} : {X : Type ℓ} {x : Referent} {s e : ℕ} → x ≡ Missing → x ≡ Found s e → X
 found-not-missing p q = absurd (false≢true (sym (ap missing q) ∙ ap missing p))
 
--- ---- the addresses of a block
-
-pub held-low : (b : Block) (q : ℕ) → holds b q ≡ true → b .start ≤ q
-held-low b q h = leb-true (b .start) q (and-left _ _ h)
-
-pub held-high : (b : Block) (q : ℕ) → holds b q ≡ true → q < b .start + 2 ^ b .order
-held-high b q h = ltb-true q (b .start + 2 ^ b .order) (and-right (leb (b .start) q) _ h)
-
 pub holds-by : (b : Block) (q : ℕ) → b .start ≤ q → q < b .start + 2 ^ b .order → holds b q ≡ true
 holds-by b q x y = and-both (le-leb (b .start) q x) (lt-ltb q (b .start + 2 ^ b .order) y)
 
--- the first address of q's slot
-abbrev pub slotAddress : ℕ → ℕ → ℕ
-slotAddress t q = base + slotOf t q * 2 ^ t
+-- ---- the pairs are a set of blocks
 
--- a block holds an address where it holds the first of its slot
-holds-slot : {t m : ℕ} (b : Block) → Aligned t m b → (q : ℕ) → base ≤ q → holds b q ≡ holds b (slotAddress t q)
-holds-slot {t} {m} b a q h = true-together (holds b q) (holds b (slotAddress t q)) there back
-  where
-    z : Slots t m b
-    z = slots-of t m b a
+member-aligned : {t m : ℕ} {bs : List Block} → Proper t m bs → (b : Block) → List·Memᴰ b bs → Aligned t m b
+member-aligned {t} {m} (more a d p) b (List·Memᴰ·head e) = subst (Aligned t m) (sym e) a
+member-aligned (more a d p) b (List·Memᴰ·tail i) = member-aligned p b i
 
-    same : slotOf t (slotAddress t q) ≡ slotOf t q
-    same = slot-start t (slotOf t q)
+-- a block that stands before c in the list holds none of c's addresses
+before-apart : {bs : List Block} {b c x : Block} (q : ℕ) → ((r : ℕ) → holds x r ≡ true → referentOf bs r ≡ Missing) → b ≡ x → List·Memᴰ c bs → holds b q ≡ true → holds c q ≡ true → ⊥
+before-apart {bs} {b} {c} q d e i h k = false≢true (sym (missing-none bs q (d q (subst (λ (y : Block). holds y q ≡ true) e h)) c i) ∙ k)
 
-    there : holds b q ≡ true → holds b (slotAddress t q) ≡ true
-    there u =
-        let i = held-slots t m b z q u in
-        slots-held t m b z (slotAddress t q) (record { past = omega arith; low = omega (arith, same, i .low); high = omega (arith, same, i .high) })
+apart : {t m : ℕ} {bs : List Block} → Proper t m bs → (b c : Block) → List·Memᴰ b bs → List·Memᴰ c bs → (q : ℕ) → holds b q ≡ true → holds c q ≡ true → b ≡ c
+apart (more a d p) b c (List·Memᴰ·head e) (List·Memᴰ·head f) q h k = e ∙ sym f
+apart (more a d p) b c (List·Memᴰ·head e) (List·Memᴰ·tail j) q h k = absurd (before-apart q d e j h k)
+apart (more a d p) b c (List·Memᴰ·tail i) (List·Memᴰ·head f) q h k = absurd (before-apart q d f i k h)
+apart (more a d p) b c (List·Memᴰ·tail i) (List·Memᴰ·tail j) q h k = apart p b c i j q h k
 
-    back : holds b (slotAddress t q) ≡ true → holds b q ≡ true
-    back u =
-        let i = held-slots t m b z (slotAddress t q) u in
-        slots-held t m b z q (record { past = h; low = omega (arith, same, i .low); high = omega (arith, same, i .high) })
+pub proper-set : {t m : ℕ} {bs : List Block} → Proper t m bs → BlockSet t m bs
+proper-set p = record { aligned = member-aligned p; apart = apart p }
 
-pub referent-slot : {t m : ℕ} {bs : List Block} → Proper t m bs → (q : ℕ) → base ≤ q → referentOf bs q ≡ referentOf bs (slotAddress t q)
-unfolding referentOf
-referent-slot none q h = refl
-referent-slot (more {b} {bs} a d p) q h = rw (holds-slot b a q h, referent-slot p q h)
+pub member-found : {t m : ℕ} {bs : List Block} → Proper t m bs → (b : Block) → List·Memᴰ b bs → (q : ℕ) → holds b q ≡ true → referentOf bs q ≡ Found (b .start) (b .order)
+member-found {t} {m} {bs} p b i q h = set-found t m bs (proper-set p) b q i h
+
+-- each address of the block found has it for its referent
+pub whole : {t m : ℕ} {bs : List Block} → Proper t m bs → (s e q : ℕ) → referentOf bs q ≡ Found s e → (r : ℕ) → holds (block s e) r ≡ true → referentOf bs r ≡ Found s e
+whole {bs = bs} p s e q h r i = member-found p (block s e) (found-member bs q s e h .mem) r i
 
 -- ---- free slots
 
-pub missing-true : (x : Referent) → missing x ≡ true → x ≡ Missing
+missing-true : (x : Referent) → missing x ≡ true → x ≡ Missing
 missing-true Missing h = refl
 missing-true (Found s e) h = absurd (false≢true h)
 
@@ -78,90 +65,8 @@ pub free-slots : {t m : ℕ} {bs : List Block} → Proper t m bs → (b : Block)
 free-slots {t} {m} {bs} p b z f q h =
     let s = held-slots t m b z q h in
     let e : z .first + (slotOf t q - z .first) ≡ slotOf t q = omega (arith, s .low) in
-    referent-slot p q (s .past)
+    referent-slot t m bs (proper-set p) q (s .past)
     ∙ missing-true _ (subst (λ (i : ℕ). unheld t bs i ≡ true) e (f (slotOf t q - z .first) (omega (arith, s .low, s .high))))
-
--- ---- the block found at an address
-
-pub record Held (t m s e q : ℕ) : Type 0 where
-  pub aligned : Aligned t m (block s e)
-  pub held : holds (block s e) q ≡ true
-
-pub found : {t m : ℕ} {bs : List Block} → Proper t m bs → (s e q : ℕ) → referentOf bs q ≡ Found s e → Held t m s e q
-unfolding referentOf
-found none s e q h = found-not-missing refl h
-found {t} {m} (more {b} {bs} a d p) s e q h = go (found p s e q) (holds b q) refl h
-  where
-    go : (referentOf bs q ≡ Found s e → Held t m s e q) → (u : Bool) → holds b q ≡ u → cond u (Found (b .start) (b .order)) (referentOf bs q) ≡ Found s e → Held t m s e q
-    go ih true w k =
-        let x : b .start ≡ s = cc in
-        let y : b .order ≡ e = cc in
-        let z : b ≡ block s e = λ i. record { start = x i; order = y i } in
-        record { aligned = subst (Aligned t m) z a; held = subst (λ (r : Block). holds r q ≡ true) z w }
-    go ih false w k = ih k
-
--- each address of the block found has it for its referent
-pub whole : {t m : ℕ} {bs : List Block} → Proper t m bs → (s e q : ℕ) → referentOf bs q ≡ Found s e → (r : ℕ) → holds (block s e) r ≡ true → referentOf bs r ≡ Found s e
-unfolding referentOf
-whole none s e q h r i = found-not-missing refl h
-whole (more {b} {bs} a d p) s e q h r i = go (λ k. whole p s e q k r i) (holds b q) (holds b r) refl refl h
-  where
-    go : (referentOf bs q ≡ Found s e → referentOf bs r ≡ Found s e) → (u v : Bool) → holds b q ≡ u → holds b r ≡ v → cond u (Found (b .start) (b .order)) (referentOf bs q) ≡ Found s e
-        → cond v (Found (b .start) (b .order)) (referentOf bs r) ≡ Found s e
-    go ih true true w x k = k
-    go ih true false w x k =
-        let f : b .start ≡ s = cc in
-        let g : b .order ≡ e = cc in
-        let z : block s e ≡ b = λ j. record { start = sym f j; order = sym g j } in
-        absurd (false≢true (sym x ∙ subst (λ (y : Block). holds y r ≡ true) z i))
-    go ih false true w x k = found-not-missing (d r x) (ih k)
-    go ih false false w x k = ih k
-
--- outside the arena there is no referent
-pub outside : {t m : ℕ} {bs : List Block} → Proper t m bs → (q : ℕ) → (q < base) ⊎ (base + 2 ^ m ≤ q) → referentOf bs q ≡ Missing
-outside {t} {m} {bs} p q o = go (referentOf bs q) refl
-  where
-    no : (s e : ℕ) → Held t m s e q → (q < base) ⊎ (base + 2 ^ m ≤ q) → ⊥
-    no s e f (inl h) =
-        let i : s ≡ base + f .aligned .index * 2 ^ e = f .aligned .place in
-        let j : s ≤ q = held-low (block s e) q (f .held) in omega arith
-    no s e f (inr h) =
-        let i : s + 2 ^ e ≤ base + 2 ^ m = f .aligned .inside in
-        let j : q < s + 2 ^ e = held-high (block s e) q (f .held) in omega arith
-
-    go : (x : Referent) → referentOf bs q ≡ x → x ≡ Missing
-    go Missing h = refl
-    go (Found s e) h = absurd (no s e (found p s e q h) o)
-
--- ---- the pairs are a set of blocks
-
-member-aligned : {t m : ℕ} {bs : List Block} → Proper t m bs → (b : Block) → List·Memᴰ b bs → Aligned t m b
-member-aligned {t} {m} (more a d p) b (List·Memᴰ·head e) = subst (Aligned t m) (sym e) a
-member-aligned (more a d p) b (List·Memᴰ·tail i) = member-aligned p b i
-
-pub member-found : {t m : ℕ} {bs : List Block} → Proper t m bs → (b : Block) → List·Memᴰ b bs → (q : ℕ) → holds b q ≡ true → referentOf bs q ≡ Found (b .start) (b .order)
-unfolding referentOf
-member-found (more {b = c} {bs} a d p) b (List·Memᴰ·head e) q h =
-    let k : holds c q ≡ true = subst (λ (x : Block). holds x q ≡ true) e h in
-    rw k (ap (λ (x : Block). Found (x .start) (x .order)) (sym e))
-member-found (more {b = c} {bs} a d p) b (List·Memᴰ·tail i) q h = go (holds c q) refl (member-found p b i q h)
-  where
-    go : (u : Bool) → holds c q ≡ u → referentOf bs q ≡ Found (b .start) (b .order) → cond u (Found (c .start) (c .order)) (referentOf bs q) ≡ Found (b .start) (b .order)
-    go true w k = found-not-missing (d q w) k
-    go false w k = k
-
-pub proper-set : {t m : ℕ} {bs : List Block} → Proper t m bs → BlockSet t m bs
-proper-set {t} {m} {bs} p =
-    record {
-      aligned = member-aligned p;
-      apart = λ b c i j q h k. same b c (sym (member-found p b i q h) ∙ member-found p c j q k);
-    }
-  where
-    same : (b c : Block) → Found (b .start) (b .order) ≡ Found (c .start) (c .order) → b ≡ c
-    same b c e =
-        let x : b .start ≡ c .start = cc in
-        let y : b .order ≡ c .order = cc in
-        λ i. record { start = x i; order = y i }
 
 -- ---- a pair removed: its addresses have no referent, the others keep theirs
 

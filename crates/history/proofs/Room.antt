@@ -2,8 +2,9 @@
 use Prim.Native.Nat.{ℕ, zero, suc, _+_, _-_, _*_, _^_, _≤_, _<_}
 use mathlib.Core.Path.{_≡_, refl, sym, _∙_, ap, subst}
 use mathlib.Core.Bool.{Bool, true, false, not, cond, _&&_, _||_, false≢true}
-use mathlib.Core.List.{List, [], _∷_, _++_, List·Memᴰ, List·Memᴰ·head, List·Memᴰ·tail}
-use native.Mathlib.Nat.{suc-mul, zero-add, le-of-mul-le-mul-right}
+use mathlib.Core.Logic.{⊎-elim}
+use mathlib.Core.List.{List, [], _∷_, _++_, List·Memᴰ, List·Memᴰ·head, List·Memᴰ·not-nil, List·Memᴰ·cases-cons, Memᴰ·append-right}
+use native.Mathlib.Nat.{le-refl, suc-mul, zero-add, le-of-mul-le-mul-right}
 use native.Mathlib.Omega.{arith}
 use lib.Dec.{ltb, eqb}
 use lib.ListN.{length, getD, take}
@@ -11,125 +12,82 @@ use lib.Pow.{pow-pos}
 use lib.Seq.{take-at, getD-at}
 use borrow.Author.Tests.{not-true, eqb-false, ne-eqb, ltb-false, le-ltb}
 use Rattle.common.specs.Refusals.{Refusal, _when_, first}
-use Rattle.blocks.specs.Blocks.{base, Block, holds, missing}
-use Rattle.blocks.specs.Sets.{referentOf}
+use Rattle.blocks.specs.Blocks.{base, Block, holds, Aligned, missing}
 use Rattle.blocks.specs.Orders.{neededOrder}
 use Rattle.blocks.specs.Placing.{allFree, rangeStart, freeRange, placeIn}
-use Rattle.blocks.specs.declared.Referent.{Referent}
-use Rattle.blocks.specs.declared.Referent.the-variants.{Missing, Found}
 use Rattle.blocks.specs.declared.Place.{Place}
 use Rattle.blocks.specs.declared.Place.the-variants.{At, Nothing}
-use Rattle.blocks.proofs.Booleans.{and-left, and-right, or-false-left, or-false-right}
-use Rattle.blocks.proofs.Floors.{pow-split}
-use Rattle.blocks.proofs.Orders.{Needed, needed-order}
+use Rattle.blocks.proofs.Booleans.{and-left, and-right, or-false-left, or-false-right, true-together}
 use Rattle.blocks.proofs.Halves.{sizes}
-use Rattle.blocks.proofs.Places.{range-inside, place-sound, place-complete}
+use Rattle.blocks.proofs.Places.{place-complete}
 use Rattle.blocks.proofs.Runs.{at-all}
-use Rattle.blocks.proofs.Slots.{slotOf, slot-start, Slots, slots-of, aligned-by, held-slots, slots-held}
-use Rattle.heap.specs.Views.{slotOrder, placeFor, noPlace}
+use Rattle.blocks.proofs.Sets.{missing-none, none-missing}
+use Rattle.blocks.proofs.Slots.{slot-start, Slots, slots-of, slots-held}
+use Rattle.heap.specs.Views.{slotOrder, placeFor, noPlace, placeAddress}
 use Rattle.heap.specs.Rules.{rules, argumentRules, stateRules}
 use Rattle.heap.specs.Effects.{settled, Outcome}
+use Rattle.heap.specs.Heaps.{Heap}
 use Rattle.heap.specs.declared.Answer.{Answer}
 use Rattle.heap.specs.declared.Call.{Call}
 use Rattle.heap.specs.declared.Call.the-variants.{Get, Give, Step, Read, Write, Left, Copy, Fill}
-use Rattle.history.specs.Ledgers.{Ledger, ledgerView, ledgerStep, emptyLedger}
+use Rattle.history.specs.Ledgers.{Ledger, ledgerView, kept, ledgerStep, emptyLedger}
 use Rattle.history.specs.Runs.{run, ledgerRun}
 use Rattle.history.specs.Histories.{liveBy, FreeRange, Starved, StarvedGet}
-use Rattle.history.proofs.Agreement.{Proper}
+use Rattle.history.proofs.Agreement.{Proper, more, Agree}
 use Rattle.history.proofs.Live.{lives}
-use Rattle.history.proofs.Pairs.{found-not-missing, member-found, referent-slot}
+use Rattle.history.proofs.Pairs.{proper-set, unheld}
+use Rattle.history.proofs.Simulation.{step-same}
 
--- ---- free ranges
-
--- the arena's slots that no block of bs holds
-abbrev unheld : ℕ → List Block → ℕ → Bool
-unheld t bs i = missing (referentOf bs (base + i * 2 ^ t))
-
-none-holds : (bs : List Block) (q : ℕ) → ((b : Block) → List·Memᴰ b bs → holds b q ≡ true → ⊥) → referentOf bs q ≡ Missing
-unfolding referentOf
-none-holds [] q h = refl
-none-holds (b ∷ bs) q h = go (holds b q) refl (none-holds bs q (λ c i. h c (List·Memᴰ·tail i)))
-  where
-    go : (u : Bool) → holds b q ≡ u → referentOf bs q ≡ Missing → cond u (Found (b .start) (b .order)) (referentOf bs q) ≡ Missing
-    go true k ih = absurd (h b (List·Memᴰ·head refl) k)
-    go false k ih = ih
+-- ---- a range that the placing rule does not find
 
 -- the range shares no address with a block of the list
 abbrev Unshared : List Block → Block → Type 0
 Unshared bs r = (b : Block) → List·Memᴰ b bs → (q : ℕ) → holds b q ≡ true → holds r q ≡ true → ⊥
 
-missing-true : (x : Referent) → missing x ≡ true → x ≡ Missing
-missing-true Missing h = refl
-missing-true (Found s e) h = absurd (false≢true h)
-
--- the range's slots are all free
-abbrev SlotsFree : {t m : ℕ} {r : Block} → List Block → Slots t m r → Type 0
-SlotsFree {t} {m} {r} bs z = (i : ℕ) → i < 2 ^ (r .order - t) → unheld t bs (z .first + i) ≡ true
-
-module _ (t m : ℕ) (bs : List Block) (r : Block) (z : Slots t m r) where
-  unshared-free : Unshared bs r → SlotsFree bs z
-  unshared-free u i l =
+module _ (t m : ℕ) (bs : List Block) where
+  unshared-free : (r : Block) (z : Slots t m r) → Unshared bs r → (i : ℕ) → i < 2 ^ (r .order - t) → unheld t bs (z .first + i) ≡ true
+  unshared-free r z u i l =
       let s = slot-start t (z .first + i) in
-      ap missing (none-holds bs _ (λ b k h. u b k _ h (slots-held t m r z _ (record { past = omega arith; low = omega (arith, s); high = omega (arith, s) }))))
+      let q : ℕ = base + (z .first + i) * 2 ^ t in
+      let held : holds r q ≡ true = slots-held t m r z q (record { past = omega arith; low = omega (arith, s); high = omega (arith, s) }) in
+      ap missing (none-missing bs q (λ b k. true-together (holds b q) false (λ h. absurd (u b k q h held)) (λ e. absurd (false≢true e))))
 
-  free-unshared : Proper t m bs → SlotsFree bs z → Unshared bs r
-  free-unshared p f b k q h x =
-      let s = held-slots t m r z q x in
-      let e : z .first + (slotOf t q - z .first) ≡ slotOf t q = omega (arith, s .low) in
-      let g : unheld t bs (slotOf t q) ≡ true = subst (λ (i : ℕ). unheld t bs i ≡ true) e (f (slotOf t q - z .first) (omega (arith, s .low, s .high))) in
-      found-not-missing (referent-slot p q (s .past) ∙ missing-true _ g) (member-found p b k q h)
-
--- ---- a get
-
-module _ (m : ℕ) (low : slotOrder ≤ m) (bs : List Block) (proper : Proper slotOrder m bs) (n : ℕ) (fits : n ≤ 2 ^ m) where
-  abbrev free : ℕ → Bool
-  free = unheld slotOrder bs
-
-  abbrev need : ℕ
-  need = neededOrder slotOrder m n
-
-  needed : Needed slotOrder m n need
-  needed = needed-order slotOrder m n low fits
-
-  -- no free range is large enough
-  abbrev NoneLarge : Type 0
-  NoneLarge = (r : Block) → FreeRange m bs r → need ≤ r .order → ⊥
-
-  -- a range is one of those that the placing rule goes through
-  unplaced : placeIn free slotOrder 0 m need ≡ Nothing → NoneLarge
+  -- where the rule finds no place for order e, each aligned range of order e or more shares an address with a block
+  unplaced : (e : ℕ) → placeIn (unheld t bs) t 0 m e ≡ Nothing → (r : Block) → Aligned t m r → Unshared bs r → e ≤ r .order → ⊥
   unfolding freeRange rangeStart
-  unplaced q r f l =
-      let a = f .aligned in
-      let z = slots-of slotOrder m r a in
+  unplaced e q r a u l =
+      let z = slots-of t m r a in
       let k : ℕ = r .order in
-      let w : ℕ = 2 ^ (k - slotOrder) in
-      let x : suc (z .index) * w ≤ 2 ^ (m - k) * w = omega (arith, z .within, z .multiple, suc-mul (z .index) w, sizes slotOrder k m (a .low) (a .high)) in
-      let y : allFree free (0 + z .index * w) w ≡ true = rw (zero-add, ← z .multiple) (at-all free (z .first) w (unshared-free slotOrder m bs r z (f .unshared))) in
-      false≢true (sym (place-complete free slotOrder 0 m need q k (z .index) l (a .high) (le-of-mul-le-mul-right x (pow-pos (k - slotOrder)))) ∙ y)
+      let w : ℕ = 2 ^ (k - t) in
+      let x : suc (z .index) * w ≤ 2 ^ (m - k) * w = omega (arith, z .within, z .multiple, suc-mul (z .index) w, sizes t k m (a .low) (a .high)) in
+      let y : allFree (unheld t bs) (0 + z .index * w) w ≡ true = rw (zero-add, ← z .multiple) (at-all (unheld t bs) (z .first) w (unshared-free r z u)) in
+      false≢true (sym (place-complete (unheld t bs) t 0 m e q k (z .index) l (a .high) (le-of-mul-le-mul-right x (pow-pos (k - t)))) ∙ y)
 
-  placed : (s k : ℕ) → placeIn free slotOrder 0 m need ≡ At s k → NoneLarge → ⊥
-  placed s k q g =
-      let f = place-sound free slotOrder 0 m need s k (omega (arith, needed .high)) q in
-      let a : slotOrder ≤ k = omega (arith, needed .low, f .low) in
-      let e : s ≡ f .number * 2 ^ (k - slotOrder) = f .start ∙ zero-add _ in
-      let x : s + 2 ^ (k - slotOrder) ≤ 2 ^ (m - slotOrder) = omega (arith, range-inside slotOrder m k (f .number) a (f .high) (f .among)) in
-      let z : Slots slotOrder m (record { start = base + s * 2 ^ slotOrder; order = k }) =
-      record { first = s; start = refl; size = pow-split slotOrder k a; within = x; index = f .number; multiple = e } in
-      g _ (record { aligned = aligned-by slotOrder m s k (f .number) a (f .high) e x; unshared = free-unshared slotOrder m bs _ z proper (f .free) }) (f .low)
+-- ---- the range that a get takes
 
-  no-place-starves : noPlace (placeIn free slotOrder 0 m need) ≡ true → NoneLarge
-  no-place-starves h = go (placeIn free slotOrder 0 m need) refl h
-    where
-      go : (x : Place) → placeIn free slotOrder 0 m need ≡ x → noPlace x ≡ true → NoneLarge
-      go Nothing q h = unplaced q
-      go (At s k) q h = absurd (false≢true h)
+-- the last of the pairs shares no address with the others
+last-unshared : {t m : ℕ} (bs : List Block) (r : Block) → Proper t m (bs ++ (r ∷ [])) → Unshared bs r
+last-unshared [] r p b i q h k = List·Memᴰ·not-nil i
+last-unshared (c ∷ bs) r (more a d p) b i q h k =
+    ⊎-elim
+    (λ e. false≢true (sym (missing-none _ q (d q (subst (λ (x : Block). holds x q ≡ true) e h)) r (Memᴰ·append-right bs (List·Memᴰ·head refl))) ∙ k))
+    (λ j. last-unshared bs r p b j q h k) (List·Memᴰ·cases-cons i)
 
-  starved-no-place : NoneLarge → noPlace (placeIn free slotOrder 0 m need) ≡ true
-  starved-no-place g = go (placeIn free slotOrder 0 m need) refl
-    where
-      go : (x : Place) → placeIn free slotOrder 0 m need ≡ x → noPlace x ≡ true
-      go Nothing q = refl
-      go (At s k) q = absurd (placed s k q g)
+settled-state : {S : Type 0} (n : ℕ) (old : S) (v : ℕ) (new : S) → n ≡ 0 → settled n old v new .state ≡ new
+settled-state zero old v new e = refl
+settled-state (suc n) old v new e = absurd (omega arith)
+
+module _ (m : ℕ) (five : 5 ≤ m) (top : m ≤ 16) (h : Heap) (l : Ledger) (agree : Agree m h l) (n : ℕ) where
+  abbrev got : Block
+  got = record { start = placeAddress (placeFor m n (ledgerView l)); order = neededOrder slotOrder m n }
+
+  -- an accepted get adds its block to the pairs, which stay apart: it was free
+  got-free : first (rules m (Get n) (ledgerView l)) ≡ 0 → FreeRange m (l .pairs) got
+  unfolding ledgerStep kept
+  got-free e =
+      let new : ledgerStep m (Get n) l .state ≡ _ = settled-state _ l _ _ e in
+      let p : Proper slotOrder m (l .pairs ++ (got ∷ [])) = subst (λ (x : Ledger). Proper slotOrder m (x .pairs)) new (step-same m five top h l agree (Get n) .agree .proper) in
+      record { aligned = proper-set p .aligned got (Memᴰ·append-right (l .pairs) (List·Memᴰ·head refl)); unshared = last-unshared (l .pairs) got p }
 
 -- ---- the number 21
 
@@ -156,27 +114,33 @@ number-is : (m : ℕ) (c : Call) (l : Ledger) → ledgerStep m c l .answer .numb
 unfolding ledgerStep
 number-is m c l = settled-number (first (rules m c (ledgerView l))) l _ _
 
-module _ (m : ℕ) (low : slotOrder ≤ m) (l : Ledger) (proper : Proper slotOrder m (l .pairs)) where
+module _ (m : ℕ) (five : 5 ≤ m) (top : m ≤ 16) (h : Heap) (l : Ledger) (agree : Agree m h l) where
   -- 21 by the rules
   abbrev full : Call → Type 0
   full c = first (rules m c (ledgerView l)) ≡ 21
 
   full-starved : (n : ℕ) → full (Get n) → Starved m (l .pairs) n
   unfolding rules argumentRules stateRules
-  full-starved n e = go (eqb n 0 || ltb (2 ^ m) n) refl (noPlace (placeFor m n (ledgerView l))) refl e
+  full-starved n e = go (eqb n 0 || ltb (2 ^ m) n) refl (placeFor m n (ledgerView l)) refl e
     where
-      go : (u : Bool) → eqb n 0 || ltb (2 ^ m) n ≡ u → (v : Bool) → noPlace (placeFor m n (ledgerView l)) ≡ v → cond {A = ℕ} u 10 (cond {A = ℕ} v 21 0) ≡ 21 → Starved m (l .pairs) n
-      go true a v b q = absurd (omega arith)
-      go false a false b q = absurd (omega arith)
-      go false a true b q =
+      go : (u : Bool) → eqb n 0 || ltb (2 ^ m) n ≡ u → (x : Place) → placeFor m n (ledgerView l) ≡ x → cond {A = ℕ} u 10 (cond {A = ℕ} (noPlace x) 21 0) ≡ 21 → Starved m (l .pairs) n
+      go true a x b q = absurd (omega arith)
+      go false a (At s k) b q = absurd (omega arith)
+      go false a Nothing b q =
           let z : (n ≡ 0 → ⊥) = eqb-false n 0 (or-false-left _ _ a) in
-          let f : n ≤ 2 ^ m = ltb-false (2 ^ m) n (or-false-right (eqb n 0) _ a) in
-          record { some = omega arith; fits = f; none = no-place-starves m low (l .pairs) proper n f b }
+          record {
+            some = omega arith;
+            fits = ltb-false (2 ^ m) n (or-false-right (eqb n 0) _ a);
+            none = λ r f. unplaced slotOrder m (l .pairs) (neededOrder slotOrder m n) b r (f .aligned) (f .unshared);
+          }
 
   starved-full : (n : ℕ) → Starved m (l .pairs) n → full (Get n)
   unfolding rules argumentRules stateRules
-  starved-full n s =
-      rw (ne-eqb n 0 (λ e. omega (arith, s .some)), le-ltb (2 ^ m) n (s .fits), starved-no-place m low (l .pairs) proper n (s .fits) (s .none))
+  starved-full n s = go (noPlace (placeFor m n (ledgerView l))) (rw (ne-eqb n 0 (λ e. omega (arith, s .some)), le-ltb (2 ^ m) n (s .fits)))
+    where
+      go : (u : Bool) → first (rules m (Get n) (ledgerView l)) ≡ cond {A = ℕ} u 21 0 → full (Get n)
+      go true e = e
+      go false e = absurd (s .none _ (got-free m five top h l agree n e) (le-refl _))
 
   starved-by-rules : (c : Call) → (full c → StarvedGet m (l .pairs) c) × (StarvedGet m (l .pairs) c → full c)
   unfolding rules argumentRules stateRules lacks
@@ -227,12 +191,12 @@ module _ {S : Type 0} (step : Call → S → Outcome S) where
 abbrev Tells : ℕ → List Block → Call → Answer → Type 0
 Tells m live c x = (x .number ≡ 21 → StarvedGet m live c) × (StarvedGet m live c → x .number ≡ 21)
 
-pub room : (m : ℕ) → slotOrder ≤ m → (before later : List Call) (c : Call) (xs ys : List Answer) (x : Answer) → Proper slotOrder m (ledgerRun m before .last .pairs)
+pub room : (m : ℕ) → 5 ≤ m → m ≤ 16 → (before later : List Call) (c : Call) (xs ys : List Answer) (x : Answer) → (h : Heap) → Agree m h (ledgerRun m before .last)
     → ledgerRun m (before ++ (c ∷ later)) .answers ≡ xs ++ (x ∷ ys) → length xs ≡ length before
     → (x .number ≡ 21 → StarvedGet m (liveBy m before xs) c) × (StarvedGet m (liveBy m before xs) c → x .number ≡ 21)
-room m low before later c xs ys x proper split place =
+room m five top before later c xs ys x h agree split place =
     let l = ledgerRun m before .last in
     let own : x ≡ ledgerStep m c l .answer = answer-at (ledgerStep m) (emptyLedger m) before later c xs ys x split place in
     let live : liveBy m before xs ≡ l .pairs = ap (liveBy m before) (answers-before (ledgerStep m) (emptyLedger m) before later c xs ys x split place) ∙ lives m before in
     subst (λ (y : Answer). Tells m (liveBy m before xs) c y) (sym own)
-    (subst (λ (bs : List Block). Tells m bs c (ledgerStep m c l .answer)) (sym live) (starved-number m low l proper c))
+    (subst (λ (bs : List Block). Tells m bs c (ledgerStep m c l .answer)) (sym live) (starved-number m five top h l agree c))

@@ -23,10 +23,12 @@ use Rattle.blocks.specs.declared.Place.the-variants.{At, Nothing}
 use Rattle.blocks.specs.declared.Referent.{Referent}
 use Rattle.blocks.specs.declared.Referent.the-variants.{Missing, Found}
 use Rattle.blocks.proofs.Booleans.{and-left, and-right, and-both, or-false-right}
-use Rattle.blocks.proofs.Floors.{floor-base, pow-split}
+use Rattle.blocks.proofs.Floors.{floor-multiple, floor-base, pow-split}
+use Rattle.blocks.proofs.Sets.{held-low, held-high, found-member, found-aligned}
+use Rattle.blocks.proofs.SetTables.{table-length, free-missing, referent-same, table-undamaged}
 use Rattle.blocks.proofs.Checks.{check-exact}
 use Rattle.blocks.proofs.Orders.{Needed, needed-order}
-use Rattle.blocks.proofs.Slots.{Slots, aligned-by}
+use Rattle.blocks.proofs.Slots.{block, Slots, aligned-of}
 use Rattle.blocks.proofs.Places.{range-inside, FreePlace, place-sound}
 use Rattle.heap.specs.Views.{View, slotOrder, referentOfPointer, placeFor, noPlace, placeAddress}
 use Rattle.heap.specs.Rules.{rules, argumentRules, stateRules, not-start}
@@ -36,8 +38,8 @@ use Rattle.heap.specs.declared.Call.{Call}
 use Rattle.heap.specs.declared.Call.the-variants.{Get, Give, Step, Read, Write, Left, Copy, Fill}
 use Rattle.history.specs.Ledgers.{Ledger, ledgerView, without, kept, ledgerStep}
 use Rattle.history.proofs.Agreement.{Proper, Agree, Same}
-use Rattle.history.proofs.Pairs.{block, held-low, held-high, holds-by, Held, found, whole, unheld, free-slots, without-in, without-out, without-proper, added-in, added-out, added-proper}
-use Rattle.history.proofs.Tables.{length-table, stamped-table, floor-found, free-same, referent-same, table-undamaged}
+use Rattle.history.proofs.Pairs.{holds-by, proper-set, whole, unheld, free-slots, without-in, without-out, without-proper, added-in, added-out, added-proper}
+use Rattle.history.proofs.Tables.{stamped-table}
 
 -- ---- the two views
 
@@ -63,15 +65,16 @@ module _ {m : ℕ} {bs : List Block} (top : m ≤ 16) (proper : Proper slotOrder
       at : (h : ℕ) → sought slotOrder p ≡ pos h → (x : Referent) → referentOf bs h ≡ x → insideByCheck x p i ≡ within x (exactSum (address p) i)
       at h e Missing k = refl
       at h e (Found s o) k =
-          let f : Held slotOrder m s o h = found proper s o h k in
-          let lo : s ≤ h = held-low (block s o) h (f .held) in
-          let hi : h < s + 2 ^ o = held-high (block s o) h (f .held) in
-          let st : s ≡ base + f .aligned .index * 2 ^ o = f .aligned .place in
-          let ins : s + 2 ^ o ≤ base + 2 ^ m = f .aligned .inside in
-          let om : o ≤ m = f .aligned .high in
+          let a : Aligned slotOrder m (block s o) = found-aligned slotOrder m bs (proper-set proper) h s o k in
+          let held = found-member bs h s o k .held in
+          let lo : s ≤ h = held-low (block s o) h held in
+          let hi : h < s + 2 ^ o = held-high (block s o) h held in
+          let st : s ≡ base + a .index * 2 ^ o = a .place in
+          let ins : s + 2 ^ o ≤ base + 2 ^ m = a .inside in
+          let om : o ≤ m = a .high in
           let size : 2 ^ m ≤ 2 ^ 16 = pow-mono top in
           let near : address p ≤ h + 16 = sought-near slotOrder p h e in
-          let fl : floor o h ≡ s = floor-base o h (omega arith) (omega arith) ∙ floor-found s o h f in
+          let fl : floor o h ≡ s = floor-base o h (omega arith) (omega arith) ∙ (ap (λ (x : ℕ). base + x) (floor-multiple o (a .index) (h - base) (omega arith) (omega arith)) ∙ sym st) in
           ap (λ (x : ℕ). checkBits o x (wrappedSum (address p) i)) (ap natAbs e)
           ∙ (check-exact o h (address p) i (omega arith) (omega arith) (omega arith) ∙ ap (λ (x : ℕ). within (Found x o) (exactSum (address p) i)) fl)
 
@@ -83,12 +86,13 @@ pub view-same : (m : ℕ) → 5 ≤ m → m ≤ 16 → (h : Heap) (l : Ledger) �
 view-same m five top h l g =
     let four : slotOrder ≤ m = omega arith in
     let one : 1 ≤ slotOrder = omega arith in
-    let s : length (h .table) ≡ 2 ^ (m - slotOrder) = ap length (g .table) ∙ length-table slotOrder m (l .pairs) in
+    let set = proper-set (g .proper) in
+    let s : length (h .table) ≡ 2 ^ (m - slotOrder) = ap length (g .table) ∙ table-length slotOrder m (l .pairs) in
     let a : not (leb 5 m && (leb m 16 && (eqb (length (h .arena)) (2 ^ m) && eqb (length (h .table)) (2 ^ (m - slotOrder))))) ≡ false =
     ap not (and-both (le-leb 5 m five) (and-both (le-leb m 16 top) (and-both (eq-eqb _ _ (g .size)) (eq-eqb _ _ s)))) in
-    let d : damagedBy slotOrder m (h .table) ≡ false = ap (damagedBy slotOrder m) (g .table) ∙ table-undamaged one four (g .proper) in
-    let f : (i : ℕ) → freeIn (h .table) i ≡ missing (referentOf (l .pairs) (base + i * 2 ^ slotOrder)) = λ i. ap (λ (x : List ℕ). freeIn x i) (g .table) ∙ free-same one four (g .proper) i in
-    let r : referentIn slotOrder (h .table) ≡ referentOf (l .pairs) = fun-ext (λ q. ap (λ (x : List ℕ). referentIn slotOrder x q) (g .table) ∙ referent-same one four (g .proper) q) in
+    let d : damagedBy slotOrder m (h .table) ≡ false = ap (damagedBy slotOrder m) (g .table) ∙ table-undamaged slotOrder m one four (l .pairs) set in
+    let f : (i : ℕ) → freeIn (h .table) i ≡ missing (referentOf (l .pairs) (base + i * 2 ^ slotOrder)) = λ i. ap (λ (x : List ℕ). freeIn x i) (g .table) ∙ free-missing slotOrder m one four (l .pairs) set i in
+    let r : referentIn slotOrder (h .table) ≡ referentOf (l .pairs) = fun-ext (λ q. ap (λ (x : List ℕ). referentIn slotOrder x q) (g .table) ∙ referent-same slotOrder m one four (l .pairs) set q) in
     let n : (p i : ℕ) → insideByCheck (referentAt (referentIn slotOrder (h .table)) (sought slotOrder p)) p i ≡ within (referentAt (referentOf (l .pairs)) (sought slotOrder p)) (exactSum (address p) i) =
     λ p i. ap (λ (x : ℕ → Referent). insideByCheck (referentAt x (sought slotOrder p)) p i) r ∙ inside-same top (g .proper) p i in
     λ i. record { wrong-sizes = a i; damaged = d i; free = λ j. f j i; referent = r i; inside = λ p k. n p k i }
@@ -143,7 +147,7 @@ module _ (t m e : ℕ) (bs : List Block) (p : Proper t m bs) (low : t ≤ e) (s 
   placed : Placed t m bs (block (base + s * 2 ^ t) e)
   placed =
       record {
-        aligned = aligned-by t m s e (w .number * 2 ^ (k - e)) low (omega (arith, w .low, w .high)) mul ends;
+        aligned = aligned-of t m (block (base + s * 2 ^ t) e) low (omega (arith, w .low, w .high)) at-start;
         free = free-slots p (block (base + s * 2 ^ t) e) at-start (λ i l. w .free i (omega (arith, smaller)));
       }
 
@@ -165,11 +169,12 @@ module _ (m : ℕ) (big : slotOrder ≤ m) (h : Heap) (l : Ledger) (g : Agree m 
   left-fits : (p : ℕ) (x : Referent) → referentOf bs p ≡ x → missing x ≡ false → (p - base) + leftIn x p ≤ length (l .bytes)
   left-fits p Missing q k = absurd (false≢true (sym k))
   left-fits p (Found s e) q k =
-      let f : Held slotOrder m s e p = found (g .proper) s e p q in
-      let lo : s ≤ p = held-low (block s e) p (f .held) in
-      let hi : p < s + 2 ^ e = held-high (block s e) p (f .held) in
-      let st : s ≡ base + f .aligned .index * 2 ^ e = f .aligned .place in
-      let ins : s + 2 ^ e ≤ base + 2 ^ m = f .aligned .inside in
+      let a : Aligned slotOrder m (block s e) = found-aligned slotOrder m bs (proper-set (g .proper)) p s e q in
+      let held = found-member bs p s e q .held in
+      let lo : s ≤ p = held-low (block s e) p held in
+      let hi : p < s + 2 ^ e = held-high (block s e) p held in
+      let st : s ≡ base + a .index * 2 ^ e = a .place in
+      let ins : s + 2 ^ e ≤ base + 2 ^ m = a .inside in
       omega (arith, arena-size)
 
   -- a plain pointer's referent is the pair that holds it
@@ -191,23 +196,22 @@ module _ (m : ℕ) (big : slotOrder ≤ m) (h : Heap) (l : Ledger) (g : Agree m 
   give-agree p Missing y k n = absurd (false≢true (sym k))
   give-agree p (Found s e) y k n =
       let q : referentOf bs p ≡ Found p e = y ∙ ap (λ (i : ℕ). Found i e) (eqb-true s p (not-false _ n)) in
-      let f : Held slotOrder m p e p = found (g .proper) p e p q in
+      let kept-set = without-proper p (g .proper) in
       record {
         bytes = g .bytes;
         size = g .size;
         table =
             ap (λ (x : List ℕ). stamped x p e 0) (g .table)
-            ∙ stamped-table slotOrder m bs (without p bs) (block p e) (f .aligned) 0
+            ∙ stamped-table slotOrder m (omega arith) big bs (without p bs) (proper-set (g .proper)) (proper-set kept-set) (block p e) (found-aligned slotOrder m bs (proper-set (g .proper)) p p e q) 0
             (λ r k. ap orderIn (without-in (g .proper) p e r (whole (g .proper) p e p q r k)))
             (λ r k.
             without-out (g .proper) p r
             (λ o y.
-            let d : Held slotOrder m p o r = found (g .proper) p o r y in
-            let lo : p ≤ r = held-low (block p o) r (d .held) in
+            let held = found-member bs r p o y .held in
             let w : referentOf bs p ≡ Found p o = whole (g .proper) p o r y p (holds-by (block p o) p (omega arith) (omega (arith, pow-pos o))) in
             let z : o ≡ e = cc in
-            false≢true (sym k ∙ subst (λ (x : ℕ). holds (block p x) r ≡ true) z (d .held))));
-        proper = without-proper p (g .proper);
+            false≢true (sym k ∙ subst (λ (x : ℕ). holds (block p x) r ≡ true) z held)));
+        proper = kept-set;
       }
 
   get-agree : (n : ℕ) → n ≤ 2 ^ m → (x : Place) → placeFor m n (ledgerView l) ≡ x → noPlace x ≡ false
@@ -222,6 +226,7 @@ module _ (m : ℕ) (big : slotOrder ≤ m) (h : Heap) (l : Ledger) (g : Agree m 
       let w = place-sound (unheld slotOrder bs) slotOrder 0 m e s k (omega (arith, need .high)) q in
       let c : Block = block (base + s * 2 ^ slotOrder) e in
       let z : Placed slotOrder m bs c = placed slotOrder m e bs (g .proper) (need .low) s k w in
+      let longer : Proper slotOrder m (bs ++ (c ∷ [])) = added-proper c (g .proper) (z .aligned) (z .free) in
       let ins : base + s * 2 ^ slotOrder + 2 ^ e ≤ base + 2 ^ m = z .aligned .inside in
       let zeros : List ℕ = replicate (2 ^ e - n) 0 in
       let at : ℕ = placeAddress (At s k) - base + n in
@@ -233,10 +238,10 @@ module _ (m : ℕ) (big : slotOrder ≤ m) (h : Heap) (l : Ledger) (g : Agree m 
         size = r .size;
         table =
             ap (λ (x : List ℕ). stamped x (base + s * 2 ^ slotOrder) e e) (g .table)
-            ∙ stamped-table slotOrder m bs (bs ++ (c ∷ [])) c (z .aligned) e
+            ∙ stamped-table slotOrder m (omega arith) big bs (bs ++ (c ∷ [])) (proper-set (g .proper)) (proper-set longer) c (z .aligned) e
             (λ a x. ap orderIn (added-in bs c a (z .free a x) x))
             (λ a x. added-out bs c a x);
-        proper = added-proper c (g .proper) (z .aligned) (z .free);
+        proper = longer;
       }
 
   -- an accepted call leaves the two in agreement

@@ -1,7 +1,5 @@
 -- `address_of` meets its contract.
-use Prim.Native.Nat.{_≤_}
 use mathlib.Core.Path.{sym, _∙_}
-use native.Mathlib.Omega.{arith}
 use borrow.Author.Needs.{needs}
 use borrow.Author.Tests.{leb-true}
 use Rattle.blocks.proofs.address_of.Statement.{statement}

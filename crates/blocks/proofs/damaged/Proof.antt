@@ -1,7 +1,7 @@
 -- `damaged` meets its contract. Both loops are left by `break 'scan` at the first damage.
 -- The outer loop's invariant: every slot passed is good. The inner loop's: every slot of the range that was passed has the entry e.
 -- The measures are what is left of the table and of the range.
-use mathlib.Core.Bool.{true, false}
+use mathlib.Core.Bool.{false}
 use mathlib.Core.List.{List}
 use mathlib.Core.Path.{_≡_, refl, sym, _∙_, ap}
 use Prim.Native.Nat.{ℕ, _+_, _-_, _*_, _/_, _^_, _≤_, _<_}
@@ -11,7 +11,7 @@ use borrow.Author.Needs.{needs}
 use borrow.Author.Count.{below-none, below-more}
 use denote.Ref.{now}
 use lib.ListN.{length, getD}
-use lib.Pow.{pow-pos, pow-mono}
+use lib.Pow.{pow-pos}
 use Rattle.blocks.specs.Blocks.{floor}
 use Rattle.blocks.proofs.Floors.{floor-le, lt-floor, floor-end}
 use Rattle.blocks.proofs.Tables.{Good, Whole, damaged-at, undamaged, free-good, low-bad, high-bad, torn-bad, whole-good}

@@ -1,8 +1,7 @@
 -- `needed_order` meets its contract. The invariant: what is still to be tried gives what the whole search gives.
-use Prim.Native.Nat.{_-_, _^_, _≤_, _<_}
+use Prim.Native.Nat.{_-_, _≤_}
 use mathlib.Core.Path.{_≡_, refl, sym, _∙_}
 use native.Mathlib.Omega.{arith}
-use borrow.Author.Needs.{needs}
 use Rattle.blocks.specs.Orders.{neededFrom, neededOrder}
 use Rattle.blocks.proofs.Orders.{needed-hit, needed-next, needed-end}
 use Rattle.blocks.proofs.needed_order.Statement.{statement}

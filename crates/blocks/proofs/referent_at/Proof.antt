@@ -1,10 +1,9 @@
 -- `referent_at` meets its contract.
-use Prim.Native.Nat.{ℕ, _+_, _-_, _*_, _/_, _^_, _≤_, _<_}
+use Prim.Native.Nat.{ℕ, _+_, _-_, _*_, _/_}
 use mathlib.Core.Path.{_≡_, sym, _∙_, ap}
 use native.Mathlib.Nat.{div-mul-le-self}
 use native.Mathlib.Omega.{arith}
 use borrow.Author.Needs.{needs}
-use lib.ListN.{getD}
 use lib.Pow.{pow-pos}
 use Rattle.blocks.specs.Blocks.{base, floor}
 use Rattle.blocks.specs.Tables.{blockRound, referentIn}
