@@ -11,6 +11,15 @@ ghost use Rattle.blocks.specs.Placing.{allFree, placeIn};
 ghost use Rattle.blocks.specs.Searching.{partIn, isFree, placeOf, smallerOf};
 ghost use Rattle.blocks.specs.Pointers.{sought, referentAt, marked, address, exactSum, wrappedSum, checkBits, within};
 
+// The arena's first address, the bit that marks a pointer, and the order and size of a slot.
+const BASE: u32 = 65536;
+
+const MARK: u32 = 2147483648;
+
+const SLOT_ORDER: u32 = 4;
+
+const SLOT_SIZE: u32 = 16;
+
 // The block that a pointer refers to, by its start and order.
 pub enum Referent {
     Missing,
@@ -57,7 +66,7 @@ pub fn slots_of(e: u32) -> usize
     requires { ⌜ (4 ≤ e) × (e ≤ 16) ⌝ }
     ensures { λ r. ⌜ r ≡ 2 ^ (e - 4) ⌝ }
 {
-    size_of(e - 4) as usize
+    size_of(e - SLOT_ORDER) as usize
 }
 
 // The order that a get of n bytes needs in an arena of order m.
@@ -65,7 +74,7 @@ pub fn needed_order(m: u32, n: u32) -> u32
     requires { ⌜ (4 ≤ m) × (m ≤ 16) ⌝ }
     ensures { λ r. ⌜ r ≡ neededOrder 4 m n ⌝ }
 {
-    let mut e = 4u32;
+    let mut e = SLOT_ORDER;
     while e < m {
         if n <= size_of(e) {
             return e;
@@ -96,13 +105,13 @@ pub fn passes(h: u32, q: u32, i: u32, e: u32) -> bool
 pub fn is_marked(p: u32) -> bool
     ensures { λ b. ⌜ b ≡ marked p ⌝ }
 {
-    p >= 2147483648
+    p >= MARK
 }
 
 pub fn address_of(p: u32) -> u32
     ensures { λ r. ⌜ r ≡ address p ⌝ }
 {
-    if is_marked(p) { p - 2147483648 } else { p }
+    if is_marked(p) { p - MARK } else { p }
 }
 
 // The address at which p's referent is sought, in slots of 16 bytes.
@@ -113,13 +122,13 @@ pub fn sought_address(p: u32) -> u32
     if !is_marked(p) {
         return q;
     }
-    if q % 16 >= 8 {
-        return q + 16;
+    if q % SLOT_SIZE >= SLOT_SIZE / 2 {
+        return q + SLOT_SIZE;
     }
-    if q < 16 {
+    if q < SLOT_SIZE {
         return 0;
     }
-    q - 16
+    q - SLOT_SIZE
 }
 
 fn wide(x: u8) -> u32
@@ -133,11 +142,11 @@ pub fn referent_at(table: &[u8], m: u32, q: u32) -> Referent
     requires { ⌜ (4 ≤ m) × (m ≤ 16) × (length (now table) ≡ 2 ^ (m - 4)) × (damagedBy 4 m (now table) ≡ false) ⌝ }
     ensures { λ r. ⌜ r ≡ referentIn 4 (now (table .entry)) q ⌝ }
 {
-    if q < 65536 {
+    if q < BASE {
         return Referent::Missing;
     }
-    let x = q - 65536;
-    let i = (x / 16) as usize;
+    let x = q - BASE;
+    let i = (x / SLOT_SIZE) as usize;
     if table.len() <= i {
         return Referent::Missing;
     }
@@ -146,7 +155,7 @@ pub fn referent_at(table: &[u8], m: u32, q: u32) -> Referent
         return Referent::Missing;
     }
     let size = size_of(e);
-    Referent::Found(65536 + x / size * size, e)
+    Referent::Found(BASE + x / size * size, e)
 }
 
 // The referent of a pointer, plain or marked.
@@ -171,7 +180,7 @@ pub fn damaged(table: &[u8], m: u32) -> bool
             i += 1;
             continue 'scan;
         }
-        if e < 4 {
+        if e < SLOT_ORDER {
             found = true;
             break 'scan;
         }

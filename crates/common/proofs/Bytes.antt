@@ -1,16 +1,20 @@
 -- Laws of a list that is written over.
 use Prim.Native.Nat.{ℕ, zero, suc, _+_, _-_, _*_, _/_, _%_, _^_, _≤_, _<_}
 use mathlib.Core.Path.{_≡_, refl, sym, _∙_, ap, subst}
-use mathlib.Core.List.{List, [], _∷_, _++_, append-assoc}
+use mathlib.Core.List.{List, [], _∷_, _++_, append-assoc, append-nil}
 use native.Mathlib.Omega.{arith}
-use native.Mathlib.Nat.{add-zero, add-suc}
-use lib.ListN.{length, getD, set, take, drop, replicate, length-append, length-take, length-drop, length-replicate, take-append-drop, List·getD-append}
+use native.Mathlib.Nat.{add-zero, zero-add}
+use lib.ListN.{length, getD, set, take, drop, replicate, length-append, length-take, length-drop, length-replicate, take-append-drop, drop-of-length-le, List·getD-append}
 use lib.Seq.{getD-append-add, getD-take, getD-drop, length-take-le, take-at, drop-at, take-set-le, drop-set-lt, set-split, take-suc-set}
 use Rattle.common.specs.Bytes.{bigEndian, bytesOf, over, copied}
 
 pub over-none : (l : List ℕ) (at : ℕ) → over l at [] ≡ l
 unfolding over
 over-none l at = rw add-zero (take-append-drop at l)
+
+pub over-whole : (l xs : List ℕ) → length xs ≡ length l → over l 0 xs ≡ xs
+unfolding over
+over-whole l xs e = let h : length l ≤ length xs = omega arith in rw (zero-add, drop-of-length-le l h) (append-nil xs)
 
 -- the first element stored before the rest
 pub over-first : (l : List ℕ) (at x : ℕ) (xs : List ℕ) → at < length l → over l at (x ∷ xs) ≡ over (set l at x) (suc at) xs

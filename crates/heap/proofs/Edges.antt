@@ -14,17 +14,17 @@ use Rattle.heap.specs.Edges.{Edges}
 pub edges : Edges
 unfolding bigEndian bytesOf over floor any torn bad damagedBy referentIn sought signed checkBits within inReach orderOf neededOrder allFree rangeStart freeRange maximal lowest atOrder fromOrder placeIn argumentRules stateRules rules value stored copied insideByCheck entered heapStep heapCall
 edges =
-    record
-    { a = refl
-    ; b = refl
-    ; c = refl
-    ; d = refl
-    ; e = refl
-    ; f = refl
-    ; g = refl
-    ; h = refl
-    ; i = refl
-    ; j = refl
-    ; k = refl
-    ; l = refl
+    record {
+      a = refl;
+      b = refl;
+      c = refl;
+      d = refl;
+      e = refl;
+      f = refl;
+      g = refl;
+      h = refl;
+      i = refl;
+      j = refl;
+      k = refl;
+      l = refl;
     }

@@ -35,12 +35,12 @@ insideByCheck (Found s e) p i = checkBits e (natAbs (sought slotOrder p)) (wrapp
 -- the heap as an arena of 2 ^ m bytes
 abbrev pub heapView : ℕ → Heap → View
 heapView m h =
-    record
-    { wrong-sizes = not (leb 5 m && (leb m 16 && (eqb (length (h .arena)) (2 ^ m) && eqb (length (h .table)) (2 ^ (m - slotOrder)))))
-    ; damaged = damagedBy slotOrder m (h .table)
-    ; free = freeIn (h .table)
-    ; referent = referentIn slotOrder (h .table)
-    ; inside = λ p i. insideByCheck (referentAt (referentIn slotOrder (h .table)) (sought slotOrder p)) p i
+    record {
+      wrong-sizes = not (leb 5 m && (leb m 16 && (eqb (length (h .arena)) (2 ^ m) && eqb (length (h .table)) (2 ^ (m - slotOrder)))));
+      damaged = damagedBy slotOrder m (h .table);
+      free = freeIn (h .table);
+      referent = referentIn slotOrder (h .table);
+      inside = λ p i. insideByCheck (referentAt (referentIn slotOrder (h .table)) (sought slotOrder p)) p i;
     }
 
 -- the table with x in each slot of the block of order e that starts at s
@@ -92,6 +92,10 @@ heapCheck p i h = judged (rules (orderOf (length (h .arena))) (Left p) (viewOf h
 -- Showing a sample: the part of the arena from p to its referent's end, empty if refused.
 unfoldable pub shown : ℕ → Heap → List ℕ
 shown p h = cond (eqb (pointerNumber h p) 0) (take (leftFrom (viewOf h) p) (drop (p - base) (h .arena))) []
+
+-- how far into the arena it begins
+unfoldable pub shownFrom : ℕ → Heap → ℕ
+shownFrom p h = cond (eqb (pointerNumber h p) 0) (p - base) 0
 
 -- an answer and the two buffers, as the outcome of a call
 abbrev pub outcome : Answer → List ℕ → List ℕ → Outcome Heap

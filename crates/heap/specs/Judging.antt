@@ -41,7 +41,7 @@ pub record Judged (c : Call) (a t : List ℕ) (number order : ℕ) : Type 0 wher
   pub same : number ≡ 0 → order ≡ orderOf (length a)
   pub ready : number ≡ 0 → Ready order c a t
 
--- the block of order e at s holds h, and q is h's own address or that of a pointer that leads to h
+-- the block of order e at s holds h; q is the address that is stepped from
 pub record Holding (s e h q : ℕ) : Type 0 where
   pub order : e ≤ 16
   pub low : base ≤ s

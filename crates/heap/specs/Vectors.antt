@@ -1,10 +1,10 @@
 -- Outside vectors on the definitions: direct calls, pokes into the table between them, and both buffers at the end.
-use Prim.Native.Nat.{ℕ, zero, suc}
+use Prim.Native.Nat.{ℕ}
 use mathlib.Core.Path.{_≡_, refl}
 use mathlib.Core.Bool.{Bool, true, false, _&&_}
 use mathlib.Core.List.{List, [], _∷_}
 use lib.Dec.{eqb}
-use lib.ListN.{set}
+use lib.ListN.{set, replicate}
 use Rattle.common.specs.Bytes.{bigEndian, bytesOf, over, copied}
 use Rattle.blocks.specs.Blocks.{floor}
 use Rattle.blocks.specs.Tables.{any, torn, bad, damagedBy, referentIn}
@@ -12,7 +12,7 @@ use Rattle.blocks.specs.Pointers.{sought, signed, checkBits, within, inReach}
 use Rattle.blocks.specs.Orders.{orderOf, neededOrder}
 use Rattle.blocks.specs.Placing.{allFree, rangeStart, freeRange, maximal, lowest, atOrder, fromOrder, placeIn}
 use Rattle.heap.specs.Rules.{argumentRules, stateRules, rules}
-use Rattle.heap.specs.Effects.{Outcome, value, stored}
+use Rattle.heap.specs.Effects.{value, stored}
 use Rattle.heap.specs.Heaps.{Heap, heapOf, insideByCheck, entered, heapStep, heapCall, heapFresh, freshHeap, heapCheck, pointerNumber, shown}
 use Rattle.heap.specs.declared.Answer.{Answer}
 use Rattle.heap.specs.declared.Call.{Call}
@@ -96,50 +96,7 @@ holds-047 : holdAt calls-047 (freshHeap 6) ≡ true
 unfolding bigEndian bytesOf over copied floor any torn bad damagedBy referentIn sought signed checkBits within inReach orderOf neededOrder allFree rangeStart freeRange maximal lowest atOrder fromOrder placeIn argumentRules stateRules rules value stored insideByCheck entered heapStep heapCall heapFresh heapCheck shown same is holdAt calls-047
 holds-047 = refl
 
-calls-004 : List Line
-calls-004 =
-    answers (Get 2) 0 65536 ∷ shows 65525 22 ([]) ∷ answers (Read 65536 1) 0 0 ∷ shows 65527 22 ([]) ∷ answers (Step 65536 13) 0 65549
-    ∷ shows 65527 22 ([]) ∷ answers (Step 65536 1125870274) 24 0 ∷ shows 65580 22 ([]) ∷ answers (Copy 65549 65580 128) 22 0 ∷ shows 65569 22 ([])
-    ∷ answers (Fill 65541 169 3) 0 3 ∷ shows 65549 0 (0 ∷ 0 ∷ 0 ∷ []) ∷ answers (Get 0) 10 0 ∷ shows 2147745776 13 ([]) ∷ answers (Give 65549) 23 0
-    ∷ shows 65562 22 ([]) ∷ answers (Get 348061392) 10 0 ∷ shows 65549 0 (0 ∷ 0 ∷ 0 ∷ []) ∷ checks 65536 4294967253 0 0 ∷ shows 65562 22 ([])
-    ∷ answers (Fill 65549 39 2) 0 2 ∷ shows 65549 0 (39 ∷ 39 ∷ 0 ∷ []) ∷ answers (Step 65553 16) 22 0 ∷ shows 262156 22 ([]) ∷ freshens 0
-    ∷ shows 65562 22 ([]) ∷ checks 65549 4294967265 22 0 ∷ shows 65578 22 ([]) ∷ answers (Get 17) 0 65536 ∷ shows 65592 22 ([])
-    ∷ answers (Step 65528 4294967236) 22 0 ∷ shows 65580 22 ([]) ∷ answers (Get 0) 10 0 ∷ shows 65523 22 ([]) ∷ answers (Step 65582 4294967152) 22 0
-    ∷ shows 65545 0 (0 ∷ 0 ∷ 0 ∷ 0 ∷ 0 ∷ 0 ∷ 0 ∷ 0 ∷ 0 ∷ 0 ∷ 0 ∷ 0 ∷ 0 ∷ 0 ∷ 0 ∷ 0 ∷ 0 ∷ 0 ∷ 0 ∷ 0 ∷ 0 ∷ 0 ∷ 0 ∷ []) ∷ checks 262144 3466294047 22 0
-    ∷ shows 65536 0 (0 ∷ 0 ∷ 0 ∷ 0 ∷ 0 ∷ 0 ∷ 0 ∷ 0 ∷ 0 ∷ 0 ∷ 0 ∷ 0 ∷ 0 ∷ 0 ∷ 0 ∷ 0 ∷ 0 ∷ 0 ∷ 0 ∷ 0 ∷ 0 ∷ 0 ∷ 0 ∷ 0 ∷ 0 ∷ 0 ∷ 0 ∷ 0 ∷ 0 ∷ 0 ∷ 0 ∷ 0 ∷ [])
-    ∷ answers (Get 1) 0 65568 ∷ shows 65662 22 ([]) ∷ answers (Write 65568 2 2520391247) 12 0 ∷ shows 65586 22 ([]) ∷ answers (Get 8) 0 65584
-    ∷ shows 65568 0 (0 ∷ 0 ∷ 0 ∷ 0 ∷ 0 ∷ 0 ∷ 0 ∷ 0 ∷ 0 ∷ 0 ∷ 0 ∷ 0 ∷ 0 ∷ 0 ∷ 0 ∷ 0 ∷ []) ∷ answers (Write 65584 1 4294967295) 12 0
-    ∷ shows 65536 0 (0 ∷ 0 ∷ 0 ∷ 0 ∷ 0 ∷ 0 ∷ 0 ∷ 0 ∷ 0 ∷ 0 ∷ 0 ∷ 0 ∷ 0 ∷ 0 ∷ 0 ∷ 0 ∷ 0 ∷ 0 ∷ 0 ∷ 0 ∷ 0 ∷ 0 ∷ 0 ∷ 0 ∷ 0 ∷ 0 ∷ 0 ∷ 0 ∷ 0 ∷ 0 ∷ 0 ∷ 0 ∷ [])
-    ∷ answers (Get 33) 0 65600 ∷ shows 65548 0 (0 ∷ 0 ∷ 0 ∷ 0 ∷ 0 ∷ 0 ∷ 0 ∷ 0 ∷ 0 ∷ 0 ∷ 0 ∷ 0 ∷ 0 ∷ 0 ∷ 0 ∷ 0 ∷ 0 ∷ 0 ∷ 0 ∷ 0 ∷ [])
-    ∷ answers (Step 65600 788323851) 24 0 ∷ shows 2147483647 22 ([]) ∷ answers (Left 2147549291) 13 0
-    ∷ shows 65536 0 (0 ∷ 0 ∷ 0 ∷ 0 ∷ 0 ∷ 0 ∷ 0 ∷ 0 ∷ 0 ∷ 0 ∷ 0 ∷ 0 ∷ 0 ∷ 0 ∷ 0 ∷ 0 ∷ 0 ∷ 0 ∷ 0 ∷ 0 ∷ 0 ∷ 0 ∷ 0 ∷ 0 ∷ 0 ∷ 0 ∷ 0 ∷ 0 ∷ 0 ∷ 0 ∷ 0 ∷ 0 ∷ [])
-    ∷ checks 65561 51 0 0 ∷ shows 2147549306 13 ([]) ∷ answers (Copy 65568 65616 16) 0 16 ∷ shows 2147745780 13 ([]) ∷ answers (Get 17) 21 0
-    ∷ shows 65584 0 (0 ∷ 0 ∷ 0 ∷ 0 ∷ 0 ∷ 0 ∷ 0 ∷ 0 ∷ 0 ∷ 0 ∷ 0 ∷ 0 ∷ 0 ∷ 0 ∷ 0 ∷ 0 ∷ []) ∷ checks 65645 16 0 1 ∷ shows 65596 0 (0 ∷ 0 ∷ 0 ∷ 0 ∷ [])
-    ∷ answers (Get 15) 21 0 ∷ shows 2147745811 13 ([]) ∷ answers (Fill 2147483663 244 53) 13 0
-    ∷ shows 65584 0 (0 ∷ 0 ∷ 0 ∷ 0 ∷ 0 ∷ 0 ∷ 0 ∷ 0 ∷ 0 ∷ 0 ∷ 0 ∷ 0 ∷ 0 ∷ 0 ∷ 0 ∷ 0 ∷ []) ∷ answers (Get 2) 21 0
-    ∷ shows 65568 0 (0 ∷ 0 ∷ 0 ∷ 0 ∷ 0 ∷ 0 ∷ 0 ∷ 0 ∷ 0 ∷ 0 ∷ 0 ∷ 0 ∷ 0 ∷ 0 ∷ 0 ∷ 0 ∷ []) ∷ pokes 6 5 ∷ answers (Fill 65536 47 128) 20 0 ∷ pokes 6 6
-    ∷ answers (Left 65600) 0 64
-    ∷ shows 65536 0 (0 ∷ 0 ∷ 0 ∷ 0 ∷ 0 ∷ 0 ∷ 0 ∷ 0 ∷ 0 ∷ 0 ∷ 0 ∷ 0 ∷ 0 ∷ 0 ∷ 0 ∷ 0 ∷ 0 ∷ 0 ∷ 0 ∷ 0 ∷ 0 ∷ 0 ∷ 0 ∷ 0 ∷ 0 ∷ 0 ∷ 0 ∷ 0 ∷ 0 ∷ 0 ∷ 0 ∷ 0 ∷ [])
-    ∷ answers (Copy 65568 262150 8) 22 0 ∷ shows 4294967288 13 ([]) ∷ answers (Step 2147549196 4294967286) 0 65538
-    ∷ shows 65600 0 (0 ∷ 0 ∷ 0 ∷ 0 ∷ 0 ∷ 0 ∷ 0 ∷ 0 ∷ 0 ∷ 0 ∷ 0 ∷ 0 ∷ 0 ∷ 0 ∷ 0 ∷ 0 ∷ 0 ∷ 0 ∷ 0 ∷ 0 ∷ 0 ∷ 0 ∷ 0 ∷ 0 ∷ 0 ∷ 0 ∷ 0 ∷ 0 ∷ 0 ∷ 0 ∷ 0 ∷ 0 ∷ 0 ∷ 0 ∷ 0 ∷ 0 ∷ 0 ∷ 0 ∷ 0 ∷ 0 ∷ 0 ∷ 0 ∷ 0 ∷ 0 ∷ 0 ∷ 0 ∷ 0 ∷ 0 ∷ 0 ∷ 0 ∷ 0 ∷ 0 ∷ 0 ∷ 0 ∷ 0 ∷ 0 ∷ 0 ∷ 0 ∷ 0 ∷ 0 ∷ 0 ∷ 0 ∷ 0 ∷ 0 ∷ [])
-    ∷ checks 65580 1 0 1
-    ∷ shows 65635 0 (0 ∷ 0 ∷ 0 ∷ 0 ∷ 0 ∷ 0 ∷ 0 ∷ 0 ∷ 0 ∷ 0 ∷ 0 ∷ 0 ∷ 0 ∷ 0 ∷ 0 ∷ 0 ∷ 0 ∷ 0 ∷ 0 ∷ 0 ∷ 0 ∷ 0 ∷ 0 ∷ 0 ∷ 0 ∷ 0 ∷ 0 ∷ 0 ∷ 0 ∷ [])
-    ∷ answers (Left 65614) 0 50
-    ∷ shows 65536 0 (0 ∷ 0 ∷ 0 ∷ 0 ∷ 0 ∷ 0 ∷ 0 ∷ 0 ∷ 0 ∷ 0 ∷ 0 ∷ 0 ∷ 0 ∷ 0 ∷ 0 ∷ 0 ∷ 0 ∷ 0 ∷ 0 ∷ 0 ∷ 0 ∷ 0 ∷ 0 ∷ 0 ∷ 0 ∷ 0 ∷ 0 ∷ 0 ∷ 0 ∷ 0 ∷ 0 ∷ 0 ∷ [])
-    ∷ answers (Step 262126 3418419106) 22 0
-    ∷ shows 65536 0 (0 ∷ 0 ∷ 0 ∷ 0 ∷ 0 ∷ 0 ∷ 0 ∷ 0 ∷ 0 ∷ 0 ∷ 0 ∷ 0 ∷ 0 ∷ 0 ∷ 0 ∷ 0 ∷ 0 ∷ 0 ∷ 0 ∷ 0 ∷ 0 ∷ 0 ∷ 0 ∷ 0 ∷ 0 ∷ 0 ∷ 0 ∷ 0 ∷ 0 ∷ 0 ∷ 0 ∷ 0 ∷ [])
-    ∷ checks 65591 4294967295 0 1 ∷ shows 262142 22 ([]) ∷ answers (Copy 65584 65538 17) 0 16 ∷ shows 65597 0 (0 ∷ 0 ∷ 0 ∷ [])
-    ∷ answers (Give 65549) 23 0
-    ∷ shows 65538 0 (0 ∷ 0 ∷ 0 ∷ 0 ∷ 0 ∷ 0 ∷ 0 ∷ 0 ∷ 0 ∷ 0 ∷ 0 ∷ 0 ∷ 0 ∷ 0 ∷ 0 ∷ 0 ∷ 0 ∷ 0 ∷ 0 ∷ 0 ∷ 0 ∷ 0 ∷ 0 ∷ 0 ∷ 0 ∷ 0 ∷ 0 ∷ 0 ∷ 0 ∷ 0 ∷ [])
-    ∷ answers (Get 3) 21 0 ∷ shows 65551 0 (0 ∷ 0 ∷ 0 ∷ 0 ∷ 0 ∷ 0 ∷ 0 ∷ 0 ∷ 0 ∷ 0 ∷ 0 ∷ 0 ∷ 0 ∷ 0 ∷ 0 ∷ 0 ∷ 0 ∷ []) ∷ answers (Read 65600 4) 0 0
-    ∷ shows 262139 22 ([]) ∷ checks 65584 4294967287 0 0 ∷ shows 65585 0 (0 ∷ 0 ∷ 0 ∷ 0 ∷ 0 ∷ 0 ∷ 0 ∷ 0 ∷ 0 ∷ 0 ∷ 0 ∷ 0 ∷ 0 ∷ 0 ∷ 0 ∷ [])
-    ∷ answers (Step 262150 0) 22 0
-    ∷ shows 65540 0 (0 ∷ 0 ∷ 0 ∷ 0 ∷ 0 ∷ 0 ∷ 0 ∷ 0 ∷ 0 ∷ 0 ∷ 0 ∷ 0 ∷ 0 ∷ 0 ∷ 0 ∷ 0 ∷ 0 ∷ 0 ∷ 0 ∷ 0 ∷ 0 ∷ 0 ∷ 0 ∷ 0 ∷ 0 ∷ 0 ∷ 0 ∷ 0 ∷ [])
-    ∷ checks 65530 77 22 0 ∷ shows 2147549281 13 ([]) ∷ answers (Step 65653 0) 0 65653 ∷ shows 65668 22 ([]) ∷ answers (Read 2147483655 255) 11 0
-    ∷ shows 65584 0 (0 ∷ 0 ∷ 0 ∷ 0 ∷ 0 ∷ 0 ∷ 0 ∷ 0 ∷ 0 ∷ 0 ∷ 0 ∷ 0 ∷ 0 ∷ 0 ∷ 0 ∷ 0 ∷ [])
-    ∷ arenaIs (0 ∷ 0 ∷ 0 ∷ 0 ∷ 0 ∷ 0 ∷ 0 ∷ 0 ∷ 0 ∷ 0 ∷ 0 ∷ 0 ∷ 0 ∷ 0 ∷ 0 ∷ 0 ∷ 0 ∷ 0 ∷ 0 ∷ 0 ∷ 0 ∷ 0 ∷ 0 ∷ 0 ∷ 0 ∷ 0 ∷ 0 ∷ 0 ∷ 0 ∷ 0 ∷ 0 ∷ 0 ∷ 0 ∷ 0 ∷ 0 ∷ 0 ∷ 0 ∷ 0 ∷ 0 ∷ 0 ∷ 0 ∷ 0 ∷ 0 ∷ 0 ∷ 0 ∷ 0 ∷ 0 ∷ 0 ∷ 0 ∷ 0 ∷ 0 ∷ 0 ∷ 0 ∷ 0 ∷ 0 ∷ 0 ∷ 0 ∷ 0 ∷ 0 ∷ 0 ∷ 0 ∷ 0 ∷ 0 ∷ 0 ∷ 0 ∷ 0 ∷ 0 ∷ 0 ∷ 0 ∷ 0 ∷ 0 ∷ 0 ∷ 0 ∷ 0 ∷ 0 ∷ 0 ∷ 0 ∷ 0 ∷ 0 ∷ 0 ∷ 0 ∷ 0 ∷ 0 ∷ 0 ∷ 0 ∷ 0 ∷ 0 ∷ 0 ∷ 0 ∷ 0 ∷ 0 ∷ 0 ∷ 0 ∷ 0 ∷ 0 ∷ 0 ∷ 0 ∷ 0 ∷ 0 ∷ 0 ∷ 0 ∷ 0 ∷ 0 ∷ 0 ∷ 0 ∷ 0 ∷ 0 ∷ 0 ∷ 0 ∷ 0 ∷ 0 ∷ 0 ∷ 0 ∷ 0 ∷ 0 ∷ 0 ∷ 0 ∷ 0 ∷ 0 ∷ 0 ∷ 0 ∷ 0 ∷ 0 ∷ 0 ∷ 0 ∷ 0 ∷ 0 ∷ 0 ∷ [])
-    ∷ tableIs (5 ∷ 5 ∷ 4 ∷ 4 ∷ 6 ∷ 6 ∷ 6 ∷ 6 ∷ []) ∷ []
-
-holds-004 : holdAt calls-004 (freshHeap 7) ≡ true
-unfolding bigEndian bytesOf over copied floor any torn bad damagedBy referentIn sought signed checkBits within inReach orderOf neededOrder allFree rangeStart freeRange maximal lowest atOrder fromOrder placeIn argumentRules stateRules rules value stored insideByCheck entered heapStep heapCall heapFresh heapCheck shown same is holdAt calls-004
-holds-004 = refl
+-- lengths that are no heap's: 48 bytes, and a table of one entry too many
+wrong-lengths : (holdAt (answers (Get 1) 8 0 ∷ freshens 8 ∷ checks 65536 0 8 0 ∷ shows 65536 8 [] ∷ []) (heapOf (replicate 48 7) (replicate 3 0)) ≡ true) × (holdAt (answers (Left 65536) 8 0 ∷ freshens 8 ∷ []) (heapOf (replicate 32 7) (replicate 3 0)) ≡ true)
+unfolding bigEndian bytesOf over copied floor any torn bad damagedBy referentIn sought signed checkBits within inReach orderOf neededOrder allFree rangeStart freeRange maximal lowest atOrder fromOrder placeIn argumentRules stateRules rules value stored insideByCheck entered heapStep heapCall heapFresh heapCheck shown same is holdAt
+wrong-lengths = (refl, refl)

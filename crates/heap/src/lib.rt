@@ -1,4 +1,12 @@
-// The heap: fresh, the eight calls, check and show, on an arena and a table that the caller lends.
+// The heap: fresh, the eight calls, check and show, on an arena and a table that the caller lends. Each call judges its input, and then
+// calls its inner function in `unchecked`.
+ghost use mathlib.Core.Path.{_≡_};
+ghost use Prim.Native.Nat.{_+_, _-_};
+ghost use Rattle.heap.specs.Heaps.{heapOf, outcome, heapCall, heapFresh, heapCheck, shown, shownFrom};
+
+pub mod answers;
+mod refusals;
+pub mod unchecked;
 
 // What a call answers: the number of its refusal, 0 for none, and its value.
 #[repr(C)]
@@ -17,4 +25,131 @@ pub enum Call {
     Left(u32),
     Copy(u32, u32, u32),
     Fill(u32, u8, u32),
+}
+
+// Makes the heap fresh: both buffers all zero.
+pub fn fresh(arena: &mut [u8], table: &mut [u8]) -> Answer
+    ensures { λ r. ⌜ outcome r (now (arena .exit)) (now (table .exit)) ≡ heapFresh (heapOf (now (arena .entry)) (now (table .entry))) ⌝ }
+{
+    if refusals::order_of(arena, table) == 0 {
+        return answers::refused(8);
+    }
+    let n = arena.len();
+    common::fill(arena, 0, n, 0);
+    let k = table.len();
+    common::fill(table, 0, k, 0);
+    answers::accepted(0)
+}
+
+// The start of a new block of at least n bytes.
+pub fn get(arena: &mut [u8], table: &mut [u8], n: u32) -> Answer
+    ensures { λ r. ⌜ outcome r (now (arena .exit)) (now (table .exit)) ≡ heapCall (Call.Get n) (heapOf (now (arena .entry)) (now (table .entry))) ⌝ }
+{
+    let j = refusals::judge(arena, table, Call::Get(n));
+    if j.number != 0 {
+        return answers::refused(j.number);
+    }
+    unchecked::get(arena, table, j.order, n)
+}
+
+// Gives the block that starts at p back.
+pub fn give(arena: &[u8], table: &mut [u8], p: u32) -> Answer
+    ensures { λ r. ⌜ outcome r (now (arena .entry)) (now (table .exit)) ≡ heapCall (Call.Give p) (heapOf (now (arena .entry)) (now (table .entry))) ⌝ }
+{
+    let j = refusals::judge(arena, table, Call::Give(p));
+    if j.number != 0 {
+        return answers::refused(j.number);
+    }
+    unchecked::give(arena, table, j.order, p)
+}
+
+// The pointer i bytes on from p, i a signed number in two's complement: plain inside p's referent, marked in its reach.
+pub fn step(arena: &[u8], table: &[u8], p: u32, i: u32) -> Answer
+    ensures { λ r. ⌜ outcome r (now (arena .entry)) (now (table .entry)) ≡ heapCall (Call.Step p i) (heapOf (now (arena .entry)) (now (table .entry))) ⌝ }
+{
+    let j = refusals::judge(arena, table, Call::Step(p, i));
+    if j.number != 0 {
+        return answers::refused(j.number);
+    }
+    unchecked::step(arena, table, j.order, p, i)
+}
+
+// The w bytes at p as an unsigned big-endian number.
+pub fn read(arena: &[u8], table: &[u8], p: u32, w: u8) -> Answer
+    ensures { λ r. ⌜ outcome r (now (arena .entry)) (now (table .entry)) ≡ heapCall (Call.Read p w) (heapOf (now (arena .entry)) (now (table .entry))) ⌝ }
+{
+    let j = refusals::judge(arena, table, Call::Read(p, w));
+    if j.number != 0 {
+        return answers::refused(j.number);
+    }
+    unchecked::read(arena, table, j.order, p, w)
+}
+
+// Stores v at p in w bytes, big-endian.
+pub fn write(arena: &mut [u8], table: &[u8], p: u32, w: u8, v: u32) -> Answer
+    ensures { λ r. ⌜ outcome r (now (arena .exit)) (now (table .entry)) ≡ heapCall (Call.Write p w v) (heapOf (now (arena .entry)) (now (table .entry))) ⌝ }
+{
+    let j = refusals::judge(arena, table, Call::Write(p, w, v));
+    if j.number != 0 {
+        return answers::refused(j.number);
+    }
+    unchecked::write(arena, table, j.order, p, w, v)
+}
+
+// Bytes from p to its referent's end, both counted.
+pub fn left(arena: &[u8], table: &[u8], p: u32) -> Answer
+    ensures { λ r. ⌜ outcome r (now (arena .entry)) (now (table .entry)) ≡ heapCall (Call.Left p) (heapOf (now (arena .entry)) (now (table .entry))) ⌝ }
+{
+    let j = refusals::judge(arena, table, Call::Left(p));
+    if j.number != 0 {
+        return answers::refused(j.number);
+    }
+    unchecked::left(arena, table, j.order, p)
+}
+
+// Copies up to n bytes from q to p, as many as both referents hold, in rising order.
+pub fn copy(arena: &mut [u8], table: &[u8], p: u32, q: u32, n: u32) -> Answer
+    ensures { λ r. ⌜ outcome r (now (arena .exit)) (now (table .entry)) ≡ heapCall (Call.Copy p q n) (heapOf (now (arena .entry)) (now (table .entry))) ⌝ }
+{
+    let j = refusals::judge(arena, table, Call::Copy(p, q, n));
+    if j.number != 0 {
+        return answers::refused(j.number);
+    }
+    unchecked::copy(arena, table, j.order, p, q, n)
+}
+
+// Stores v in up to n bytes from p on, as many as its referent holds.
+pub fn fill(arena: &mut [u8], table: &[u8], p: u32, v: u8, n: u32) -> Answer
+    ensures { λ r. ⌜ outcome r (now (arena .exit)) (now (table .entry)) ≡ heapCall (Call.Fill p v n) (heapOf (now (arena .entry)) (now (table .entry))) ⌝ }
+{
+    let j = refusals::judge(arena, table, Call::Fill(p, v, n));
+    if j.number != 0 {
+        return answers::refused(j.number);
+    }
+    unchecked::fill(arena, table, j.order, p, v, n)
+}
+
+// The check of the plain address p and the step i: 1 where the sum stays in p's referent, else 0.
+pub fn check(arena: &[u8], table: &[u8], p: u32, i: u32) -> Answer
+    ensures { λ r. ⌜ r ≡ heapCheck p i (heapOf (now (arena .entry)) (now (table .entry))) ⌝ }
+{
+    let j = refusals::judge(arena, table, Call::Left(p));
+    if j.number != 0 {
+        return answers::refused(j.number);
+    }
+    unchecked::check(arena, table, j.order, p, i)
+}
+
+// The part of the arena from p to its referent's end, a part and no copy; empty if refused. Its number is the one that left gives.
+pub fn show<'a>(arena: &'a [u8], table: &[u8], p: u32) -> &'a [u8]
+    ensures part { λ r. ⌜ now r ≡ shown p (heapOf (now (arena .entry)) (now (table .entry))) ⌝ }
+    ensures place { λ r. ⌜ r .ptr ≡ (arena .entry .ptr .0, arena .entry .ptr .1 + shownFrom p (heapOf (now (arena .entry)) (now (table .entry)))) ⌝ }
+{
+    let answer = left(arena, table, p);
+    if answer.number != 0 {
+        return &arena[0..0];
+    }
+    let at = (p - 65536) as usize;
+    let end = at + answer.value as usize;
+    &arena[at..end]
 }

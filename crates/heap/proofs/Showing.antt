@@ -1,0 +1,123 @@
+-- Showing a sample, by what left answers for the same p.
+use Prim.Native.Nat.{ℕ, zero, suc, _+_, _-_, _^_, _≤_, _<_}
+use mathlib.Core.Path.{_≡_, refl, sym, _∙_, ap, subst}
+use mathlib.Core.Bool.{Bool, true, false, not, cond, _&&_, false≢true}
+use mathlib.Core.List.{List, [], _∷_, _++_}
+use native.Mathlib.Omega.{arith}
+use borrow.Author.Tests.{ltb-true, eqb-true, eq-eqb, ne-eqb, not-false}
+use lib.Dec.{eqb, ltb}
+use lib.ListN.{length, take, drop}
+use Rattle.common.specs.Refusals.{Refusal, _when_, first}
+use Rattle.blocks.specs.Blocks.{base, missing, leftIn}
+use Rattle.blocks.specs.Orders.{orderOf}
+use Rattle.blocks.specs.declared.Referent.{Referent}
+use Rattle.blocks.specs.declared.Referent.the-variants.{Missing, Found}
+use Rattle.blocks.proofs.Booleans.{and-left, and-right}
+use Rattle.heap.specs.Views.{View, referentOfPointer}
+use Rattle.heap.specs.Rules.{argumentRules, stateRules, rules}
+use Rattle.heap.specs.Effects.{value, leftFrom, settled}
+use Rattle.heap.specs.Heaps.{Heap, heapOf, heapView, viewOf, heapStep, heapCall, pointerNumber, shown, shownFrom, outcome}
+use Rattle.heap.specs.Judging.{Ready}
+use Rattle.heap.specs.declared.Answer.{Answer}
+use Rattle.heap.specs.declared.Call.{Call}
+use Rattle.heap.specs.declared.Call.the-variants.{Left}
+use Rattle.heap.proofs.Judging.{positive, arguments-positive, argument-clear, fits-sized}
+use Rattle.heap.proofs.Accesses.{Within, plain-within}
+
+settled-number : {S : Type 0} (k v : ℕ) (old new : S) → settled k old v new .answer .number ≡ k
+settled-number zero v old new = refl
+settled-number (suc k) v old new = refl
+
+settled-value : {S : Type 0} (k v : ℕ) (old new : S) → k ≡ 0 → settled k old v new .answer .value ≡ v
+settled-value zero v old new z = refl
+settled-value (suc k) v old new z = absurd (omega arith)
+
+module _ (p : ℕ) (h : Heap) where
+  -- show's number is left's
+  pub left-number : heapCall (Left p) h .answer .number ≡ pointerNumber h p
+  unfolding heapCall heapStep
+  left-number = settled-number (pointerNumber h p) _ _ _
+
+  left-value : pointerNumber h p ≡ 0 → heapCall (Left p) h .answer .value ≡ leftFrom (viewOf h) p
+  unfolding heapCall heapStep value
+  left-value z = settled-value (pointerNumber h p) _ _ _ z
+
+  -- and its part has as many bytes as left gives
+  pub shown-by-left : shown p h ≡ (let r = heapCall (Left p) h .answer in cond (eqb (r .number) 0) (take (r .value) (drop (p - base) (h .arena))) [])
+  unfolding shown
+  shown-by-left = rw left-number (go (eqb (pointerNumber h p) 0) refl)
+    where
+      go : (b : Bool) → eqb (pointerNumber h p) 0 ≡ b
+          → cond b (take (leftFrom (viewOf h) p) (drop (p - base) (h .arena))) [] ≡ cond b (take (heapCall (Left p) h .answer .value) (drop (p - base) (h .arena))) []
+      go true e = ap (λ (n : ℕ). take n (drop (p - base) (h .arena))) (sym (left-value (eqb-true _ _ e)))
+      go false e = refl
+
+-- A call that is not refused.
+first-cons : (k : ℕ) (b : Bool) (rs : List Refusal) → 0 < k → first ((k when b) ∷ rs) ≡ 0 → (b ≡ false) × (first rs ≡ 0)
+first-cons k true rs l z = absurd (omega arith)
+first-cons k false rs l z = (refl, z)
+
+first-append : (xs ys : List Refusal) → positive xs ≡ true → first (xs ++ ys) ≡ 0 → (first xs ≡ 0) × (first ys ≡ 0)
+first-append [] ys q z = (refl, z)
+first-append ((k when b) ∷ xs) ys q z =
+    let (x, y) = first-cons k b (xs ++ ys) (ltb-true 0 k (and-left _ _ q)) z in
+    let (u, w) = first-append xs ys (and-right (ltb 0 k) _ q) y in
+    (ap (λ (c : Bool). cond c k (first xs)) x ∙ u, w)
+
+module _ (c : Call) (a t : List ℕ) where
+  abbrev m : ℕ
+  m = orderOf (length a)
+
+  abbrev v : View
+  v = heapView m (heapOf a t)
+
+  accepted-ready : first (rules m c v) ≡ 0 → Ready m c a t × (first (stateRules m c v) ≡ 0)
+  unfolding rules
+  accepted-ready z =
+      let (x, y) = first-cons 8 (v .wrong-sizes) (argumentRules m c ++ (20 when v .damaged ∷ stateRules m c v)) (omega arith) z in
+      let (u, w) = first-append (argumentRules m c) (20 when v .damaged ∷ stateRules m c v) (arguments-positive m c) y in
+      let (d, g) = first-cons 20 (v .damaged) (stateRules m c v) (omega arith) w in
+      let s = fits-sized a t (not-false _ x) in
+      (record { sound = record { low = s .low; high = s .high; size = s .size; slots = s .slots; whole = d }; arguments = u }, g)
+
+module _ (p : ℕ) (a t : List ℕ) (r : Answer) (e : outcome r a t ≡ heapCall (Left p) (heapOf a t)) where
+  abbrev h : Heap
+  h = heapOf a t
+
+  number-left : r .number ≡ pointerNumber h p
+  number-left = ap (λ x. x .answer .number) e ∙ left-number p h
+
+  module _ (z : r .number ≡ 0) where
+    value-left : r .value ≡ leftFrom (viewOf h) p
+    value-left = ap (λ x. x .answer .value) e ∙ left-value p h (sym number-left ∙ z)
+
+    pub shown-inside : (base ≤ p) × (p - base + r .value ≤ length a)
+    unfolding argumentRules stateRules
+    shown-inside = go (referentOfPointer (viewOf h) p) refl (first-cons 22 _ [] (omega arith) (y .1) .0)
+      where
+        y : Ready (orderOf (length a)) (Left p) a t × (first (stateRules (orderOf (length a)) (Left p) (viewOf h)) ≡ 0)
+        y = accepted-ready (Left p) a t (sym number-left ∙ z)
+
+        go : (f : Referent) → referentOfPointer (viewOf h) p ≡ f → missing f ≡ false → (base ≤ p) × (p - base + r .value ≤ length a)
+        go Missing f n = absurd (false≢true (sym n))
+        go (Found s k) f n =
+            let w = plain-within (orderOf (length a)) a t (y .0 .sound) p s k (first-cons 13 _ [] (omega arith) (y .0 .arguments) .0) f in
+            let l : r .value ≡ s + 2 ^ k - p = value-left ∙ ap (λ (x : Referent). leftIn x p) f in
+            (omega (arith, w .above, w .low), omega (arith, w .above, w .low, w .high, w .inside, y .0 .sound .size))
+
+    pub shown-part : take (r .value) (drop (p - base) a) ≡ shown p h
+    unfolding shown
+    shown-part = rw (eq-eqb (pointerNumber h p) 0 (sym number-left ∙ z), value-left)
+
+    pub shown-place : p - base ≡ shownFrom p h
+    unfolding shownFrom
+    shown-place = rw (eq-eqb (pointerNumber h p) 0 (sym number-left ∙ z))
+
+  module _ (n : r .number ≡ 0 → ⊥) where
+    pub shown-empty : [] ≡ shown p h
+    unfolding shown
+    shown-empty = rw (ne-eqb (pointerNumber h p) 0 (λ x. n (number-left ∙ x)))
+
+    pub shown-nowhere : 0 ≡ shownFrom p h
+    unfolding shownFrom
+    shown-nowhere = rw (ne-eqb (pointerNumber h p) 0 (λ x. n (number-left ∙ x)))

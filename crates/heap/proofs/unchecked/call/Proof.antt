@@ -1,0 +1,254 @@
+-- `unchecked::call` meets its contract.
+use Prim.Native.Nat.{ℕ, _-_, _*_, _/_, _^_}
+use mathlib.Core.Path.{_≡_, _∙_, sym, ap, subst}
+use mathlib.Core.Bool.{Bool, cond}
+use mathlib.Core.List.{List}
+use native.Mathlib.Omega.{arith}
+use borrow.Author.Needs.{needs}
+use borrow.Author.Tests.{eq-eqb}
+use lib.ListN.{length}
+use Rattle.common.specs.Refusals.{first}
+use Rattle.blocks.specs.Orders.{orderOf}
+use Rattle.blocks.proofs.Floors.{pow-split}
+use Rattle.heap.specs.Rules.{argumentRules}
+use Rattle.heap.specs.Effects.{Outcome}
+use Rattle.heap.specs.Heaps.{Heap, heapOf, heapStep, heapCall, outcome}
+use Rattle.heap.specs.Judging.{heapOrder, Sound, Ready}
+use Rattle.heap.specs.declared.Call.{Call}
+use Rattle.heap.proofs.Judging.{answer, judged-arguments, judged-refused}
+use Rattle.heap.proofs.Stepping.{sound-order}
+use Rattle.heap.proofs.unchecked.call.Statement.{statement}
+use Rattle.heap.proofs.unchecked.call.Tie as tie
+
+-- a call that its arguments alone refuse
+module _ (m : ℕ) (c : Call) (a t : List ℕ) (s : Sound m a t) where
+  order-computed : m ≡ heapOrder a t
+  unfolding heapOrder
+  order-computed =
+      let p : 2 ^ m ≡ 2 ^ (m - 4) * 2 ^ 4 = pow-split 4 m (omega (arith, s .low)) in
+      let q : length a / 16 ≡ length t = omega (arith, s .size, s .slots) in
+      sym (ap (λ (b : Bool). cond b (orderOf (length a)) 0) (eq-eqb _ _ q) ∙ sound-order m a t s)
+
+  argument-refused : (k : ℕ) → k ≡ first (argumentRules m c) → (k ≡ 0 → ⊥) → outcome (answer k 0) a t ≡ heapStep m c (heapOf a t)
+  unfolding heapCall
+  argument-refused k q n =
+      judged-refused (judged-arguments c a t m order-computed (λ z. omega (arith, s .low)) k q n) n
+      ∙ ap (λ (o : ℕ). heapStep o c (heapOf a t)) (sound-order m a t s)
+
+-- c is the call x, of which nothing is refused by the arguments
+module _ (c : tie.Else1) (x : Call) (q : c .before .before .before .before .args .c ≡ x) where
+  abbrev entry : tie.Start
+  entry = c .before .before .before .before
+
+  ready : Ready (entry .args .m) x (entry .args .arena .now) (entry .args .table .now)
+  ready =
+      subst (λ (y : Call). Ready (entry .args .m) y (entry .args .arena .now) (entry .args .table .now)) q
+      (record { sound = entry .pre; arguments = sym (c .before .arguments .ensures) ∙ c .if1 .left })
+
+  same : (o : Outcome Heap) → o ≡ heapStep (entry .args .m) x (heapOf (entry .args .arena .now) (entry .args .table .now))
+      → o ≡ heapStep (entry .args .m) (entry .args .c) (heapOf (entry .args .arena .now) (entry .args .table .now))
+  same o h = h ∙ ap (λ (y : Call). heapStep (entry .args .m) y (heapOf (entry .args .arena .now) (entry .args .table .now))) (sym q)
+
+arguments-requires : tie.Need-arguments-requires
+arguments-requires c κs = search needs
+
+refused-requires : tie.Need-refused-requires
+refused-requires c κs = search needs
+
+returns : tie.Need-returns
+returns c =
+    let entry = c .before .before .before .before .before in
+    ap (λ x. outcome x (entry .args .arena .now) (entry .args .table .now)) (c .refused .ensures)
+    ∙ argument-refused _ _ _ _ (entry .pre) _ (c .before .before .arguments .ensures) (c .before .if1 .taken)
+
+enum-known-c : tie.Need-enum-known-c
+enum-known-c c = search needs
+
+get-requires : tie.Need-get-requires
+get-requires c κs = let k = c .before .before .before in ready (k .before .before) _ (k .c .given .1)
+
+enum-known-c-2 : tie.Need-enum-known-c-2
+enum-known-c-2 c = search needs
+
+give-requires : tie.Need-give-requires
+give-requires c κs = let k = c .before .before .before in ready (k .before .before) _ (k .c2 .given .1)
+
+enum-known-c-3 : tie.Need-enum-known-c-3
+enum-known-c-3 c = search needs
+
+step-requires : tie.Need-step-requires
+step-requires c κs = let k = c .before .before .before in ready (k .before .before) _ (k .c3 .given .1)
+
+enum-known-c-4 : tie.Need-enum-known-c-4
+enum-known-c-4 c = search needs
+
+read-requires : tie.Need-read-requires
+read-requires c κs = let k = c .before .before .before in ready (k .before .before) _ (k .c4 .given .1)
+
+enum-known-c-5 : tie.Need-enum-known-c-5
+enum-known-c-5 c = search needs
+
+write-requires : tie.Need-write-requires
+write-requires c κs = let k = c .before .before .before in ready (k .before .before) _ (k .c5 .given .1)
+
+enum-known-c-6 : tie.Need-enum-known-c-6
+enum-known-c-6 c = search needs
+
+left-requires : tie.Need-left-requires
+left-requires c κs = let k = c .before .before .before in ready (k .before .before) _ (k .c6 .given .1)
+
+enum-known-c-7 : tie.Need-enum-known-c-7
+enum-known-c-7 c = search needs
+
+copy-requires : tie.Need-copy-requires
+copy-requires c κs = let k = c .before .before .before in ready (k .before .before) _ (k .c7 .given .1)
+
+enum-known-c-8 : tie.Need-enum-known-c-8
+enum-known-c-8 c = search needs
+
+fill-requires : tie.Need-fill-requires
+fill-requires c κs = let k = c .before .before .before in ready (k .before .before) _ (k .c8 .given .1)
+
+same-length : tie.Need-same-length
+same-length c = search needs
+
+same-length-2 : tie.Need-same-length-2
+same-length-2 c = search needs
+
+returns-2 : tie.Need-returns-2
+returns-2 c =
+    let n = c .before .before .before .before in
+    let k = n .before .before .before .before in
+    same (k .before .before) _ (k .c .given .1) _ (n .get .ensures)
+
+same-length-3 : tie.Need-same-length-3
+same-length-3 c = search needs
+
+same-length-4 : tie.Need-same-length-4
+same-length-4 c = search needs
+
+returns-3 : tie.Need-returns-3
+returns-3 c =
+    let n = c .before .before in
+    let k = n .before .before .before .before in
+    same (k .before .before) _ (k .c2 .given .1) _ (n .give .ensures)
+
+same-length-5 : tie.Need-same-length-5
+same-length-5 c = search needs
+
+same-length-6 : tie.Need-same-length-6
+same-length-6 c = search needs
+
+returns-4 : tie.Need-returns-4
+returns-4 c =
+    let n = c in
+    let k = n .before .before .before .before in
+    same (k .before .before) _ (k .c3 .given .1) _ (n .step .ensures)
+
+same-length-7 : tie.Need-same-length-7
+same-length-7 c = search needs
+
+same-length-8 : tie.Need-same-length-8
+same-length-8 c = search needs
+
+returns-5 : tie.Need-returns-5
+returns-5 c =
+    let n = c in
+    let k = n .before .before .before .before in
+    same (k .before .before) _ (k .c4 .given .1) _ (n .read .ensures)
+
+same-length-9 : tie.Need-same-length-9
+same-length-9 c = search needs
+
+same-length-10 : tie.Need-same-length-10
+same-length-10 c = search needs
+
+returns-6 : tie.Need-returns-6
+returns-6 c =
+    let n = c .before .before in
+    let k = n .before .before .before .before in
+    same (k .before .before) _ (k .c5 .given .1) _ (n .write .ensures)
+
+same-length-11 : tie.Need-same-length-11
+same-length-11 c = search needs
+
+same-length-12 : tie.Need-same-length-12
+same-length-12 c = search needs
+
+returns-7 : tie.Need-returns-7
+returns-7 c =
+    let n = c in
+    let k = n .before .before .before .before in
+    same (k .before .before) _ (k .c6 .given .1) _ (n .left .ensures)
+
+same-length-13 : tie.Need-same-length-13
+same-length-13 c = search needs
+
+same-length-14 : tie.Need-same-length-14
+same-length-14 c = search needs
+
+returns-8 : tie.Need-returns-8
+returns-8 c =
+    let n = c .before .before in
+    let k = n .before .before .before .before in
+    same (k .before .before) _ (k .c7 .given .1) _ (n .copy .ensures)
+
+same-length-15 : tie.Need-same-length-15
+same-length-15 c = search needs
+
+same-length-16 : tie.Need-same-length-16
+same-length-16 c = search needs
+
+returns-9 : tie.Need-returns-9
+returns-9 c =
+    let n = c .before .before in
+    let k = n .before .before .before .before in
+    same (k .before .before) _ (k .c8 .given .1) _ (n .fill .ensures)
+
+pub call-spec : {M : Type 1} → statement M
+call-spec =
+    tie.close
+    (tie.spec
+    arguments-requires
+    refused-requires
+    returns
+    enum-known-c
+    get-requires
+    enum-known-c-2
+    give-requires
+    enum-known-c-3
+    step-requires
+    enum-known-c-4
+    read-requires
+    enum-known-c-5
+    write-requires
+    enum-known-c-6
+    left-requires
+    enum-known-c-7
+    copy-requires
+    enum-known-c-8
+    fill-requires
+    same-length
+    same-length-2
+    returns-2
+    same-length-3
+    same-length-4
+    returns-3
+    same-length-5
+    same-length-6
+    returns-4
+    same-length-7
+    same-length-8
+    returns-5
+    same-length-9
+    same-length-10
+    returns-6
+    same-length-11
+    same-length-12
+    returns-7
+    same-length-13
+    same-length-14
+    returns-8
+    same-length-15
+    same-length-16
+    returns-9)

@@ -1,0 +1,89 @@
+-- The judging of a file's head, and its writing: the answer at each return.
+use Prim.Native.Nat.{ℕ, _+_, _≤_, _<_}
+use mathlib.Core.Path.{_≡_, refl, sym, _∙_, ap}
+use mathlib.Core.Bool.{Bool, true, false}
+use mathlib.Core.List.{List, [], _∷_, _++_}
+use native.Mathlib.Omega.{arith}
+use lib.ListN.{length, getD, drop, set}
+use lib.Seq.{sets-eq}
+use borrow.Author.Tests.{lt-ltb, le-ltb, le-leb, lt-leb, eq-eqb, ne-eqb}
+use Rattle.takes.specs.Files.{longest, headNumber}
+use Rattle.takes.specs.Writing.{Stored, writeHead}
+
+module _ (s : List ℕ) where
+  pub empty : length s ≡ 0 → 1 ≡ headNumber s
+  unfolding headNumber
+  empty h = rw (eq-eqb (length s) 0 h)
+
+  module _ (some : length s ≡ 0 → ⊥) where
+    pub first-byte : (getD s 0 0 ≡ 1 → ⊥) → 1 ≡ headNumber s
+    unfolding headNumber
+    first-byte h = rw (ne-eqb (length s) 0 some, ne-eqb (getD s 0 0) 1 h)
+
+    module _ (one : getD s 0 0 ≡ 1) where
+      pub no-size : length s < 2 → 2 ≡ headNumber s
+      unfolding headNumber
+      no-size h = rw (ne-eqb (length s) 0 some, eq-eqb (getD s 0 0) 1 one, lt-ltb (length s) 2 h)
+
+      module _ (sized : 2 ≤ length s) where
+        pub small : getD s 1 0 < 5 → 2 ≡ headNumber s
+        unfolding headNumber
+        small h = rw (ne-eqb (length s) 0 some, eq-eqb (getD s 0 0) 1 one, le-ltb (length s) 2 sized, lt-leb 5 (getD s 1 0) h)
+
+        pub large : 5 ≤ getD s 1 0 → 16 < getD s 1 0 → 2 ≡ headNumber s
+        unfolding headNumber
+        large l h =
+            rw (
+              ne-eqb (length s) 0 some,
+              eq-eqb (getD s 0 0) 1 one,
+              le-ltb (length s) 2 sized,
+              le-leb 5 (getD s 1 0) l,
+              lt-leb (getD s 1 0) 16 h,
+            )
+
+        pub long : 5 ≤ getD s 1 0 → getD s 1 0 ≤ 16 → longest < length s → 3 ≡ headNumber s
+        unfolding headNumber
+        long l h k =
+            rw (
+              ne-eqb (length s) 0 some,
+              eq-eqb (getD s 0 0) 1 one,
+              le-ltb (length s) 2 sized,
+              le-leb 5 (getD s 1 0) l,
+              le-leb (getD s 1 0) 16 h,
+              lt-ltb longest (length s) k,
+            )
+
+        pub good : 5 ≤ getD s 1 0 → getD s 1 0 ≤ 16 → length s ≤ longest → 0 ≡ headNumber s
+        unfolding headNumber
+        good l h k =
+            rw (
+              ne-eqb (length s) 0 some,
+              eq-eqb (getD s 0 0) 1 one,
+              le-ltb (length s) 2 sized,
+              le-leb 5 (getD s 1 0) l,
+              le-leb (getD s 1 0) 16 h,
+              le-ltb longest (length s) k,
+            )
+
+pub two-set : (out : List ℕ) (a b : ℕ) → 2 ≤ length out → set (set out 0 a) 1 b ≡ a ∷ b ∷ drop 2 out
+two-set [] a b h = absurd (omega arith)
+two-set (x ∷ []) a b h = absurd (omega arith)
+two-set (x ∷ y ∷ out) a b h = refl
+
+module _ (m : ℕ) (out : List ℕ) where
+  pub small-m : m < 5 → record { number = 2; count = 0; slice = out } ≡ writeHead m out
+  unfolding writeHead
+  small-m h = rw (lt-leb 5 m h)
+
+  module _ (low : 5 ≤ m) where
+    pub large-m : 16 < m → record { number = 2; count = 0; slice = out } ≡ writeHead m out
+    unfolding writeHead
+    large-m h = rw (le-leb 5 m low, lt-leb m 16 h)
+
+    pub no-room : m ≤ 16 → length out < 2 → record { number = 9; count = 0; slice = out } ≡ writeHead m out
+    unfolding writeHead
+    no-room l h = rw (le-leb 5 m low, le-leb m 16 l, lt-ltb (length out) 2 h)
+
+    pub head-stored : m ≤ 16 → 2 ≤ length out → record { number = 0; count = 2; slice = set (set out 0 1) 1 m } ≡ writeHead m out
+    unfolding writeHead
+    head-stored l h = rw (le-leb 5 m low, le-leb m 16 l, le-ltb (length out) 2 h, two-set out 1 m h)

@@ -1,0 +1,11 @@
+mod Operations
+mod Fields
+mod Heads
+mod Writing
+mod Records
+pub mod Readings
+pub mod Walks
+pub mod Judging
+mod Bytes
+pub mod RoundTrips
+mod Rewriting

@@ -1,0 +1,128 @@
+-- The records from a place on: what is still to come, one record at a time.
+use Prim.Native.Nat.{ℕ, zero, suc, _+_, _-_, _≤_, _<_}
+use mathlib.Core.Path.{_≡_, refl, sym, _∙_, ap, subst}
+use mathlib.Core.Bool.{Bool, true, false, not, cond}
+use mathlib.Core.Logic.{_⊎_, inl, inr}
+use mathlib.Core.List.{List, [], _∷_}
+use mathlib.Core.Option.{Option, none, some}
+use native.Mathlib.Omega.{arith}
+use lib.Dec.{eqb, ltb}
+use lib.ListN.{length, getD, drop, length-drop}
+use borrow.Author.Tests.{lt-ltb, le-ltb, ltb-true, ltb-false, eq-eqb, ne-eqb}
+use Rattle.takes.specs.Reading.{lengthByte, Given, accepted, refused, given, readAt}
+use Rattle.takes.specs.Files.{Walk, ended, before, walk, walkFrom, sizeByte, headNumber, recordsNumber, fileNumber, recordsOf, judgement}
+use Rattle.takes.specs.declared.Record.{Record}
+use Rattle.takes.specs.declared.Reading.{Reading}
+use Rattle.takes.specs.declared.Reading.the-variants.{Found, Refused}
+use Rattle.takes.specs.declared.Judgement.{Judgement}
+use Rattle.takes.proofs.Readings.{Whole, theRecord, read-whole, read-cases}
+
+abbrev pub nextPlace : List ℕ → ℕ → ℕ
+nextPlace s at = at + 1 + lengthByte (drop at s)
+
+pub whole-inside : (s : List ℕ) (at : ℕ) → Whole (drop at s) → (at < length s) × (at + 1 < nextPlace s at) × (nextPlace s at ≤ length s)
+whole-inside s at w =
+    let p : (lengthByte (drop at s) ≡ 0 → ⊥) = w .nonzero in
+    (omega (arith, length-drop at s, w .enough), omega (arith, w .enough), omega (arith, length-drop at s, w .enough))
+
+module _ (s : List ℕ) where
+  walk-end : (f at : ℕ) → length s ≤ at → walk f s at ≡ ended 0
+  unfolding walk
+  walk-end zero at h = refl
+  walk-end (suc f) at h = rw (le-ltb at (length s) h)
+
+  walk-on : (f at : ℕ) → Whole (drop at s) → walk (suc f) s at ≡ before (theRecord (drop at s)) (walk f s (nextPlace s at))
+  unfolding walk
+  walk-on f at w = rw (lt-ltb at (length s) (whole-inside s at w .0), read-whole (drop at s) at w)
+
+  walk-stop : (f at n : ℕ) → at < length s → readAt s at ≡ refused n → walk (suc f) s at ≡ ended n
+  unfolding walk
+  walk-stop f at n h e = rw (lt-ltb at (length s) h, e)
+
+  walk-enough : (f g at : ℕ) → length s - at ≤ f → length s - at ≤ g → walk f s at ≡ walk g s at
+  walk-enough zero g at h k = walk-end 0 at (omega arith) ∙ sym (walk-end g at (omega arith))
+  walk-enough (suc f) zero at h k = walk-end (suc f) at (omega arith) ∙ sym (walk-end 0 at (omega arith))
+  walk-enough (suc f) (suc g) at h k = go (ltb at (length s)) refl (walk-enough f g)
+    where
+      inside : at < length s → ((at : ℕ) → length s - at ≤ f → length s - at ≤ g → walk f s at ≡ walk g s at)
+          → Whole (drop at s) ⊎ ((n : ℕ) × (readAt s at ≡ refused (suc n))) → walk (suc f) s at ≡ walk (suc g) s at
+      inside l next (inl w) =
+          let i = whole-inside s at w in
+          walk-on f at w
+          ∙ (ap (before (theRecord (drop at s))) (next (nextPlace s at) (omega (arith, i .0, i .1, i .2)) (omega (arith, i .0, i .1, i .2))) ∙ sym (walk-on g at w))
+      inside l next (inr (n, e)) = walk-stop f at (suc n) l e ∙ sym (walk-stop g at (suc n) l e)
+
+      go : (b : Bool) → ltb at (length s) ≡ b → ((at : ℕ) → length s - at ≤ f → length s - at ≤ g → walk f s at ≡ walk g s at)
+          → walk (suc f) s at ≡ walk (suc g) s at
+      go true e next = inside (ltb-true at (length s) e) next (read-cases (drop at s) at)
+      go false e next = let l : length s ≤ at = ltb-false at (length s) e in walk-end (suc f) at l ∙ sym (walk-end (suc g) at l)
+
+  pub from-end : (at : ℕ) → length s ≤ at → walkFrom s at ≡ ended 0
+  from-end at h = walk-end (length s) at h
+
+  one-more : (at : ℕ) → at < length s → length s ≡ suc (length s - 1)
+  one-more at h = omega arith
+
+  pub from-found : (at : ℕ) → Whole (drop at s) → walkFrom s at ≡ before (theRecord (drop at s)) (walkFrom s (nextPlace s at))
+  from-found at w =
+      let i = whole-inside s at w in
+      ap (λ (n : ℕ). walk n s at) (one-more at (i .0))
+      ∙ (walk-on (length s - 1) at w
+      ∙ ap (before (theRecord (drop at s))) (walk-enough (length s - 1) (length s) (nextPlace s at) (omega (arith, i .0, i .1, i .2)) (omega arith)))
+
+  pub from-refused : (at n : ℕ) → at < length s → readAt s at ≡ refused n → walkFrom s at ≡ ended n
+  from-refused at n h e = ap (λ (k : ℕ). walk k s at) (one-more at h) ∙ walk-stop (length s - 1) at n h e
+
+-- What the reader's answer says of the record at a place, where the records from there on are accepted.
+pub record Next (s : List ℕ) (at : ℕ) (r : Record) (next : ℕ) : Type 0 where
+  pub whole : Whole (drop at s)
+  pub the-record : r ≡ theRecord (drop at s)
+  pub next-place : next ≡ nextPlace s at
+  pub beyond : at + 1 < next
+  pub inside : next ≤ length s
+  pub to-come : walkFrom s at ≡ before r (walkFrom s next)
+
+module _ (s : List ℕ) (at : ℕ) where
+  pub found-next : (r : Record) (next : ℕ) → accepted r next ≡ readAt s at → Next s at r next
+  found-next r next e = go (read-cases (drop at s) at)
+    where
+      go : Whole (drop at s) ⊎ ((n : ℕ) × (readAt s at ≡ refused (suc n))) → Next s at r next
+      go (inl w) =
+          let i = whole-inside s at w in
+          let a : accepted r next ≡ accepted (theRecord (drop at s)) (nextPlace s at) = e ∙ read-whole (drop at s) at w in
+          let f : some r ≡ some (theRecord (drop at s)) = ap (λ (g : Given). g .found) a in
+          let p : r ≡ theRecord (drop at s) = cc in
+          let q : next ≡ nextPlace s at = ap (λ (g : Given). g .next) a in
+          record {
+            whole = w;
+            the-record = p;
+            next-place = q;
+            beyond = omega (arith, i .1);
+            inside = omega (arith, i .2);
+            to-come = rw (p, q) (from-found s at w);
+          }
+      go (inr (n, f)) = let z : _≡_ {A = ℕ} 0 (suc n) = ap (λ (g : Given). g .number) (e ∙ f) in absurd (omega arith)
+
+  -- a refused record is refused with a number that is not 0
+  pub refused-number : (n : ℕ) → refused n ≡ readAt s at → n ≡ 0 → ⊥
+  refused-number n e z = go (read-cases (drop at s) at)
+    where
+      go : Whole (drop at s) ⊎ ((k : ℕ) × (readAt s at ≡ refused (suc k))) → ⊥
+      go (inl w) =
+          let a : refused n ≡ accepted (theRecord (drop at s)) (nextPlace s at) = e ∙ read-whole (drop at s) at w in
+          let f : none ≡ some (theRecord (drop at s)) = ap (λ (g : Given). g .found) a in
+          let b : _≡_ {A = ℕ} 0 1 = cc in
+          omega arith
+      go (inr (k, f)) = let b : n ≡ suc k = ap (λ (g : Given). g .number) (e ∙ f) in omega arith
+
+  module _ (none-refused : walkFrom s at .number ≡ 0) (here : at < length s) where
+    -- where the records from a place on are accepted, the reader finds the next one
+    pub not-refused : (n : ℕ) → refused n ≡ readAt s at → ⊥
+    not-refused n e = refused-number n e (sym (ap (λ (w : Walk). w .number) (from-refused s at n here (sym e))) ∙ none-refused)
+
+    pub accepted-whole : Whole (drop at s)
+    accepted-whole = go (read-cases (drop at s) at)
+      where
+        go : Whole (drop at s) ⊎ ((n : ℕ) × (readAt s at ≡ refused (suc n))) → Whole (drop at s)
+        go (inl w) = w
+        go (inr (n, e)) = absurd (not-refused (suc n) (sym e))

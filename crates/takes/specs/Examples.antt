@@ -1,0 +1,85 @@
+-- Document 01's worked take and refused files, judged by the definitions.
+use Prim.Native.Nat.{ℕ, _+_}
+use mathlib.Core.Path.{_≡_, refl}
+use mathlib.Core.List.{List, [], _∷_, _++_, map}
+use lib.ListN.{replicate}
+use Rattle.takes.specs.Operations.{known, kindsOf, lengthOf}
+use Rattle.takes.specs.Records.{recordOf}
+use Rattle.takes.specs.Reading.{readRules, readBytes, readAt, accepted, refused}
+use Rattle.takes.specs.Files.{walk, headNumber, fileNumber, recordsOf, judgement}
+use Rattle.takes.specs.Writing.{recordBytes, recordsBytes, fileOf}
+use Rattle.takes.specs.declared.Record.{Record}
+use Rattle.takes.specs.declared.Record.the-variants.{Get, Give, Step, Read, Write, Left, Copy, Fill}
+use Rattle.takes.specs.declared.Judgement.{Judgement}
+
+-- document 01's column of lengths
+lengths : map lengthOf (1 ∷ 2 ∷ 3 ∷ 4 ∷ 5 ∷ 6 ∷ 7 ∷ 8 ∷ []) ≡ 6 ∷ 2 ∷ 7 ∷ 4 ∷ 7 ∷ 3 ∷ 8 ∷ 8 ∷ []
+unfolding kindsOf
+lengths = refl
+
+-- the worked take
+abbrev pub worked : List ℕ
+worked =
+    0x01 ∷ 0x06
+    ∷ 0x06 ∷ 0x01 ∷ 0x00 ∷ 0x00 ∷ 0x00 ∷ 0x00 ∷ 0x14
+    ∷ 0x06 ∷ 0x01 ∷ 0x01 ∷ 0x00 ∷ 0x00 ∷ 0x00 ∷ 0x10
+    ∷ 0x07 ∷ 0x03 ∷ 0x02 ∷ 0x00 ∷ 0x00 ∷ 0x00 ∷ 0x00 ∷ 0x20
+    ∷ 0x04 ∷ 0x04 ∷ 0x03 ∷ 0x02 ∷ 0x01
+    ∷ 0x07 ∷ 0x03 ∷ 0x02 ∷ 0x02 ∷ 0xFF ∷ 0xFF ∷ 0xFF ∷ 0xFF
+    ∷ 0x06 ∷ 0x01 ∷ 0x04 ∷ 0x00 ∷ 0x00 ∷ 0x00 ∷ 0x20
+    ∷ 0x02 ∷ 0x02 ∷ 0x00
+    ∷ []
+
+abbrev pub workedRecords : List Record
+workedRecords = Get 0 20 ∷ Get 1 16 ∷ Step 2 0 32 ∷ Read 3 2 1 ∷ Step 2 2 4294967295 ∷ Get 4 32 ∷ Give 0 ∷ []
+
+worked-records : recordsOf worked ≡ workedRecords
+unfolding recordsOf walk readBytes readRules known kindsOf recordOf
+worked-records = refl
+
+worked-judged : judgement worked ≡ record { number = 0; size = 6; count = 7 }
+unfolding fileNumber headNumber recordsOf walk readBytes readRules known kindsOf recordOf
+worked-judged = refl
+
+worked-written : fileOf 6 workedRecords ≡ worked
+unfolding recordsBytes recordBytes kindsOf
+worked-written = refl
+
+-- a head and no record
+head-alone : judgement (1 ∷ 5 ∷ []) ≡ record { number = 0; size = 5; count = 0 }
+unfolding fileNumber headNumber recordsOf walk readBytes readRules known kindsOf recordOf
+head-alone = refl
+
+-- 8,192 bytes are judged further, 8,193 are too long
+abbrev zeros : ℕ → List ℕ
+zeros n = 1 ∷ 6 ∷ replicate n 0
+
+too-long : map fileNumber (zeros 8190 ∷ zeros 8191 ∷ []) ≡ 4 ∷ 3 ∷ []
+unfolding fileNumber headNumber walk readBytes readRules known kindsOf recordOf
+too-long = refl
+
+-- empty; first byte 2; size byte missing, 4, 17
+refused-heads : map fileNumber ([] ∷ (2 ∷ 6 ∷ []) ∷ (1 ∷ []) ∷ (1 ∷ 4 ∷ []) ∷ (1 ∷ 17 ∷ []) ∷ []) ≡ 1 ∷ 1 ∷ 2 ∷ 2 ∷ 2 ∷ []
+unfolding fileNumber headNumber walk readBytes readRules known kindsOf recordOf
+refused-heads = refl
+
+abbrev one : List ℕ → List ℕ
+one bytes = 1 ∷ 6 ∷ bytes
+
+-- length 0; more than the bytes left; operation 9; length 7 of a get; register 16; a 7 before a 4 in the next record
+refused-records : map fileNumber
+    (one (0 ∷ [])
+    ∷ one (2 ∷ 2 ∷ [])
+    ∷ one (2 ∷ 9 ∷ 0 ∷ [])
+    ∷ one (7 ∷ 1 ∷ 0 ∷ 0 ∷ 0 ∷ 0 ∷ 8 ∷ 0 ∷ [])
+    ∷ one (2 ∷ 2 ∷ 16 ∷ [])
+    ∷ one (2 ∷ 2 ∷ 16 ∷ 0 ∷ [])
+    ∷ [])
+    ≡ 4 ∷ 4 ∷ 5 ∷ 6 ∷ 7 ∷ 7 ∷ []
+unfolding fileNumber headNumber walk readBytes readRules known kindsOf recordOf
+refused-records = refl
+
+-- the reader: past the end, at place 0 and inside a record
+read-anywhere : map (readAt (1 ∷ 6 ∷ 2 ∷ 2 ∷ 0 ∷ [])) (2 ∷ 5 ∷ 18446744073709551615 ∷ 0 ∷ 3 ∷ []) ≡ accepted (Give 0) 5 ∷ refused 4 ∷ refused 4 ∷ refused 6 ∷ refused 4 ∷ []
+unfolding readBytes readRules known kindsOf recordOf
+read-anywhere = refl

@@ -1,0 +1,80 @@
+-- Judging a whole file, and the records of an accepted one.
+use Prim.Native.Nat.{ℕ, zero, suc}
+use mathlib.Core.Bool.{Bool, true, false, not, cond, _||_, _&&_}
+use mathlib.Core.List.{List, [], _∷_}
+use mathlib.Core.Option.{Option, none, some}
+use lib.Dec.{eqb, leb, ltb}
+use lib.ListN.{length, getD}
+use Rattle.takes.specs.Rules.{Refusal, _when_, first}
+use Rattle.takes.specs.Reading.{Given, readAt}
+use Rattle.takes.specs.declared.Record.{Record}
+use Rattle.takes.specs.declared.Judgement.{Judgement}
+
+-- The records from a place on, up to the end or the first that is refused, and its number, 0 where none is.
+pub record Walk : Type 0 where
+  pub number : ℕ
+  pub records : List Record
+
+abbrev pub ended : ℕ → Walk
+ended n = record { number = n; records = [] }
+
+abbrev pub before : Record → Walk → Walk
+before r w = record { number = w .number; records = r ∷ w .records }
+
+abbrev pub onward : (ℕ → Walk) → ℕ → Option Record → ℕ → Walk
+onward go number none next = ended number
+onward go number (some r) next = before r (go next)
+
+abbrev pub turn : Bool → (ℕ → Walk) → Given → Walk
+turn true go g = onward go (g .number) (g .found) (g .next)
+turn false go g = ended 0
+
+-- at most `steps` records: as many as the file has bytes are enough, since each record takes two or more
+unfoldable pub walk : ℕ → List ℕ → ℕ → Walk
+walk zero file at = ended 0
+walk (suc steps) file at = turn (ltb at (length file)) (walk steps file) (readAt file at)
+
+abbrev pub walkFrom : List ℕ → ℕ → Walk
+walkFrom file at = walk (length file) file at
+
+-- the place of the first record
+abbrev pub headLength : ℕ
+headLength = 2
+
+abbrev pub longest : ℕ
+longest = 8192
+
+-- the size byte, document 01's m
+abbrev pub sizeByte : List ℕ → ℕ
+sizeByte file = getD file 1 0
+
+abbrev pub isSize : ℕ → Bool
+isSize m = leb 5 m && leb m 16
+
+abbrev pub recordsNumber : List ℕ → ℕ
+recordsNumber file = walkFrom file headLength .number
+
+abbrev pub headRules : List ℕ → List Refusal
+headRules file =
+    1 when (eqb (length file) 0 || not (eqb (getD file 0 0) 1))
+    ∷ 2 when (ltb (length file) 2 || not (isSize (sizeByte file)))
+    ∷ 3 when ltb longest (length file)
+    ∷ []
+
+unfoldable pub headNumber : List ℕ → ℕ
+headNumber file = first (headRules file)
+
+abbrev pub fileRules : List ℕ → List Refusal
+fileRules file = headNumber file when not (eqb (headNumber file) 0) ∷ recordsNumber file when not (eqb (recordsNumber file) 0) ∷ []
+
+unfoldable pub fileNumber : List ℕ → ℕ
+fileNumber file = first (fileRules file)
+
+unfoldable pub recordsOf : List ℕ → List Record
+recordsOf file = walkFrom file headLength .records
+
+abbrev pub judgement : List ℕ → Judgement
+judgement file =
+    cond (eqb (fileNumber file) 0)
+    (record { number = 0; size = sizeByte file; count = length (recordsOf file) })
+    (record { number = fileNumber file; size = 0; count = 0 })

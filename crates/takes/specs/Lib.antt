@@ -1,0 +1,9 @@
+pub mod Rules
+pub mod Operations
+pub mod Records
+pub mod Reading
+pub mod Files
+pub mod Writing
+pub mod RoundTrips
+pub mod Table
+pub mod Examples

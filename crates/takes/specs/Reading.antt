@@ -1,0 +1,82 @@
+-- Reading the record at a place of a file.
+use Prim.Native.Nat.{ℕ, _+_, _-_, _*_}
+use mathlib.Core.Bool.{Bool, false, not, cond, _||_}
+use mathlib.Core.List.{List, [], _∷_}
+use mathlib.Core.Option.{Option, none, some}
+use lib.Dec.{eqb, ltb}
+use lib.ListN.{length, getD, drop}
+use Rattle.takes.specs.Rules.{Refusal, _when_, first}
+use Rattle.takes.specs.Operations.{Kind, register, byte, word, size, known, kindsOf, lengthOf}
+use Rattle.takes.specs.Records.{recordOf}
+use Rattle.takes.specs.declared.Record.{Record}
+use Rattle.takes.specs.declared.Reading.{Reading}
+use Rattle.takes.specs.declared.Reading.the-variants.{Found, Refused}
+
+-- the field that stands at the start of some bytes
+abbrev pub value : Kind → List ℕ → ℕ
+value register bs = getD bs 0 0
+value byte bs = getD bs 0 0
+value word bs = ((getD bs 0 0 * 256 + getD bs 1 0) * 256 + getD bs 2 0) * 256 + getD bs 3 0
+
+-- fields that stand there one after the other
+abbrev pub values : List Kind → List ℕ → List ℕ
+values [] bs = []
+values (k ∷ ks) bs = value k bs ∷ values ks (drop (size k) bs)
+
+abbrev pub above15 : Kind → ℕ → Bool
+above15 register v = ltb 15 v
+above15 byte v = false
+above15 word v = false
+
+-- whether a register among the fields is above 15
+abbrev pub highRegister : List Kind → List ℕ → Bool
+highRegister [] vs = false
+highRegister (k ∷ ks) [] = false
+highRegister (k ∷ ks) (v ∷ vs) = above15 k v || highRegister ks vs
+
+-- the record that starts with the first of some bytes: its length byte, its operation, the values of its fields
+abbrev pub lengthByte : List ℕ → ℕ
+lengthByte bs = getD bs 0 0
+
+abbrev pub operationByte : List ℕ → ℕ
+operationByte bs = getD bs 1 0
+
+abbrev pub fieldValues : List ℕ → List ℕ
+fieldValues bs = values (kindsOf (operationByte bs)) (drop 2 bs)
+
+-- past the end there is no byte, and the length reads as 0
+unfoldable pub readRules : List ℕ → List Refusal
+readRules bs =
+    4 when (eqb (lengthByte bs) 0 || ltb (length bs - 1) (lengthByte bs))
+    ∷ 5 when not (known (operationByte bs))
+    ∷ 6 when not (eqb (lengthByte bs) (lengthOf (operationByte bs)))
+    ∷ 7 when highRegister (kindsOf (operationByte bs)) (fieldValues bs)
+    ∷ []
+
+-- What document 01's reader gives: a number, a record or none, and the next place.
+pub record Given : Type 0 where
+  pub number : ℕ
+  pub found : Option Record
+  pub next : ℕ
+
+abbrev pub accepted : Record → ℕ → Given
+accepted r next = record { number = 0; found = some r; next = next }
+
+abbrev pub refused : ℕ → Given
+refused n = record { number = n; found = none; next = 0 }
+
+-- the cases of the code's answer, in those terms
+abbrev pub given : Reading → Given
+given (Found r next) = accepted r next
+given (Refused n) = refused n
+
+abbrev pub judged : ℕ → Given → Given
+judged n g = cond (eqb n 0) g (refused n)
+
+unfoldable pub readBytes : List ℕ → ℕ → Given
+readBytes bs at =
+    judged (first (readRules bs))
+    (accepted (recordOf (operationByte bs) (fieldValues bs)) (at + 1 + lengthByte bs))
+
+abbrev pub readAt : List ℕ → ℕ → Given
+readAt file at = readBytes (drop at file) at

@@ -1,0 +1,42 @@
+-- A record as its operation's number and the values of its fields, in the file's order.
+use Prim.Native.Nat.{ℕ}
+use mathlib.Core.Bool.{cond}
+use mathlib.Core.List.{List, [], _∷_}
+use lib.Dec.{eqb}
+use lib.ListN.{getD}
+use Rattle.takes.specs.declared.Record.{Record}
+use Rattle.takes.specs.declared.Record.the-variants.{Get, Give, Step, Read, Write, Left, Copy, Fill}
+
+abbrev pub operation : Record → ℕ
+operation (Get d n) = 1
+operation (Give a) = 2
+operation (Step d a i) = 3
+operation (Read d a w) = 4
+operation (Write a w v) = 5
+operation (Left d a) = 6
+operation (Copy d a b n) = 7
+operation (Fill d a v n) = 8
+
+abbrev pub fields : Record → List ℕ
+fields (Get d n) = d ∷ n ∷ []
+fields (Give a) = a ∷ []
+fields (Step d a i) = d ∷ a ∷ i ∷ []
+fields (Read d a w) = d ∷ a ∷ w ∷ []
+fields (Write a w v) = a ∷ w ∷ v ∷ []
+fields (Left d a) = d ∷ a ∷ []
+fields (Copy d a b n) = d ∷ a ∷ b ∷ n ∷ []
+fields (Fill d a v n) = d ∷ a ∷ v ∷ n ∷ []
+
+-- the record of an operation of the table, x k being its field k
+abbrev pub build : ℕ → (ℕ → ℕ) → Record
+build op x =
+    cond (eqb op 1) (Get (x 0) (x 1))
+    (cond (eqb op 2) (Give (x 0))
+    (cond (eqb op 3) (Step (x 0) (x 1) (x 2))
+    (cond (eqb op 4) (Read (x 0) (x 1) (x 2))
+    (cond (eqb op 5) (Write (x 0) (x 1) (x 2))
+    (cond (eqb op 6) (Left (x 0) (x 1))
+    (cond (eqb op 7) (Copy (x 0) (x 1) (x 2) (x 3)) (Fill (x 0) (x 1) (x 2) (x 3))))))))
+
+unfoldable pub recordOf : ℕ → List ℕ → Record
+recordOf op values = build op (λ k. getD values k 0)
