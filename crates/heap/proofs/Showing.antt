@@ -16,7 +16,7 @@ use Rattle.blocks.proofs.Booleans.{and-left, and-right}
 use Rattle.heap.specs.Views.{View, referentOfPointer}
 use Rattle.heap.specs.Rules.{argumentRules, stateRules, rules}
 use Rattle.heap.specs.Effects.{value, leftFrom, settled}
-use Rattle.heap.specs.Heaps.{Heap, heapOf, heapView, viewOf, heapStep, heapCall, pointerNumber, shown, shownFrom, outcome}
+use Rattle.heap.specs.Heaps.{Heap, heapOf, heapView, viewOf, heapStep, heapCall, pointerNumber, shown, shownByLeft, shownFrom, outcome}
 use Rattle.heap.specs.Judging.{Ready}
 use Rattle.heap.specs.declared.Answer.{Answer}
 use Rattle.heap.specs.declared.Call.{Call}
@@ -43,8 +43,8 @@ module _ (p : ℕ) (h : Heap) where
   left-value z = settled-value (pointerNumber h p) _ _ _ z
 
   -- and its part has as many bytes as left gives
-  pub shown-by-left : shown p h ≡ (let r = heapCall (Left p) h .answer in cond (eqb (r .number) 0) (take (r .value) (drop (p - base) (h .arena))) [])
-  unfolding shown
+  pub shown-by-left : shown p h ≡ shownByLeft p h
+  unfolding shown shownByLeft
   shown-by-left = rw left-number (go (eqb (pointerNumber h p) 0) refl)
     where
       go : (b : Bool) → eqb (pointerNumber h p) 0 ≡ b

@@ -93,6 +93,11 @@ heapCheck p i h = judged (rules (orderOf (length (h .arena))) (Left p) (viewOf h
 unfoldable pub shown : ℕ → Heap → List ℕ
 shown p h = cond (eqb (pointerNumber h p) 0) (take (leftFrom (viewOf h) p) (drop (p - base) (h .arena))) []
 
+-- The same by left's answer for p: empty where its number is not 0, else as many bytes as its value.
+unfoldable pub shownByLeft : ℕ → Heap → List ℕ
+shownByLeft p h =
+    let r = heapCall (Left p) h .answer in cond (eqb (r .number) 0) (take (r .value) (drop (p - base) (h .arena))) []
+
 -- how far into the arena it begins
 unfoldable pub shownFrom : ℕ → Heap → ℕ
 shownFrom p h = cond (eqb (pointerNumber h p) 0) (p - base) 0

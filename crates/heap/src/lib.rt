@@ -2,7 +2,7 @@
 // calls its inner function in `unchecked`.
 ghost use mathlib.Core.Path.{_≡_};
 ghost use Prim.Native.Nat.{_+_, _-_};
-ghost use Rattle.heap.specs.Heaps.{heapOf, outcome, heapCall, heapFresh, heapCheck, shown, shownFrom};
+ghost use Rattle.heap.specs.Heaps.{heapOf, outcome, heapCall, heapFresh, heapCheck, shown, shownByLeft, shownFrom};
 
 pub mod answers;
 mod refusals;
@@ -143,6 +143,7 @@ pub fn check(arena: &[u8], table: &[u8], p: u32, i: u32) -> Answer
 // The part of the arena from p to its referent's end, a part and no copy; empty if refused. Its number is the one that left gives.
 pub fn show<'a>(arena: &'a [u8], table: &[u8], p: u32) -> &'a [u8]
     ensures part { λ r. ⌜ now r ≡ shown p (heapOf (now (arena .entry)) (now (table .entry))) ⌝ }
+    ensures by_left { λ r. ⌜ now r ≡ shownByLeft p (heapOf (now (arena .entry)) (now (table .entry))) ⌝ }
     ensures place { λ r. ⌜ r .ptr ≡ (arena .entry .ptr .0, arena .entry .ptr .1 + shownFrom p (heapOf (now (arena .entry)) (now (table .entry)))) ⌝ }
 {
     let answer = left(arena, table, p);

@@ -119,11 +119,11 @@ pub fn write(arena: &mut [u8], table: &[u8], m: u32, p: u32, w: u8, v: u32) -> A
     match blocks::referent_of(table, m, p) {
         Referent::Missing => refused(22),
         Referent::Found(s, e) => {
-            let width = w as usize;
-            if (left_in(s, e, p) as usize) < width {
+            let size = w as usize;
+            if (left_in(s, e, p) as usize) < size {
                 return refused(25);
             }
-            common::write_number(arena, offset(p), width, v);
+            common::write_number(arena, offset(p), size, v);
             accepted(0)
         }
     }

@@ -19,7 +19,7 @@ use Rattle.blocks.specs.Orders.{orderOf}
 use Rattle.blocks.specs.declared.Referent.the-variants.{Found}
 use Rattle.blocks.proofs.Booleans.{and-left, and-right}
 use Rattle.blocks.proofs.Floors.{pow-split}
-use Rattle.blocks.proofs.Sets.{held-high, missing-none}
+use Rattle.blocks.proofs.Sets.{held-high, missing-none, member-found}
 use Rattle.blocks.proofs.Slots.{slots-of}
 use Rattle.heap.specs.Views.{View, slotOrder}
 use Rattle.heap.specs.Rules.{rules, argumentRules, stateRules}
@@ -29,7 +29,7 @@ use Rattle.heap.specs.declared.Call.the-variants.{Step, Left}
 use Rattle.history.specs.Ledgers.{Ledger, ledgerView}
 use Rattle.history.specs.Demand3.{accepted, distance}
 use Rattle.history.proofs.Agreement.{Proper, none, more, Agree}
-use Rattle.history.proofs.Pairs.{holds-by, member-found, proper-set}
+use Rattle.history.proofs.Pairs.{holds-by, proper-set}
 use Rattle.history.proofs.Simulation.{view-same}
 use Rattle.history.proofs.Runs.{order-same}
 
@@ -178,7 +178,7 @@ module _ (m : ℕ) (five : 5 ≤ m) (top : m ≤ 16) (h : Heap) (l : Ledger) (ag
 
     check-by-ledger : (i : ℕ) → checked q i m (ledgerView l) ≡ record { answer = accepted (bit (within (Found (b .start) (b .order)) (exactSum q i))); state = h }
     unfolding rules argumentRules stateRules sought
-    check-by-ledger i = rw (lt-leb markBit q low-address, member-found (agree .proper) b member q held)
+    check-by-ledger i = rw (lt-leb markBit q low-address, member-found slotOrder m (l .pairs) (proper-set (agree .proper)) b q member held)
 
     pub check-is : (i : ℕ) → heapCheck q i h ≡ accepted (bit (within (Found (b .start) (b .order)) (exactSum q i)))
     unfolding heapCheck
@@ -194,7 +194,7 @@ module _ (m : ℕ) (five : 5 ≤ m) (top : m ≤ 16) (h : Heap) (l : Ledger) (ag
 
       step-by-ledger : stepped (markBit + r) (distance r q) m (ledgerView l) ≡ record { answer = accepted q; state = h }
       unfolding rules argumentRules stateRules value stored entered within
-      step-by-ledger = rw (back .seeks, member-found (agree .proper) b member (back .at) (back .held), exact, held)
+      step-by-ledger = rw (back .seeks, member-found slotOrder m (l .pairs) (proper-set (agree .proper)) b (back .at) member (back .held), exact, held)
 
       pub recovers : heapCall (Step (markBit + r) (distance r q)) h ≡ record { answer = accepted q; state = h }
       unfolding heapCall heapStep

@@ -23,7 +23,7 @@ use Rattle.history.specs.Histories.{liveBy}
 use Rattle.history.specs.Demand3.{after, live, Demand3}
 use Rattle.history.proofs.Agreement.{Proper}
 use Rattle.history.proofs.Pairs.{proper-set}
-use Rattle.history.proofs.Runs.{fresh-agree, Alike, run-same}
+use Rattle.history.proofs.Runs.{fresh-agree, fresh-is, Alike, run-same}
 use Rattle.history.proofs.Live.{lives}
 use Rattle.history.proofs.Checking.{places-apart, check-is, recovers}
 use Rattle.history.proofs.Room.{room}
@@ -38,6 +38,7 @@ demand3 m five top cs =
     let agree = alike m five top cs .agree in
     let are : live m cs ≡ l .pairs = ap (liveBy m cs) same ∙ lives m cs in
     record {
+      start = λ h a t. fresh-is m h five top a t;
       answers = same;
       bytes = agree .bytes;
       pairs = proper-set (agree .proper);

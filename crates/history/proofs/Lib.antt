@@ -8,3 +8,6 @@ pub mod Runs
 pub mod Checking
 pub mod Room
 pub mod Demand3
+pub mod Encoding
+pub mod Answers
+pub mod Replaying

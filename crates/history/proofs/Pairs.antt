@@ -11,8 +11,7 @@ use Rattle.blocks.specs.Sets.{referentOf, BlockSet}
 use Rattle.blocks.specs.declared.Referent.{Referent}
 use Rattle.blocks.specs.declared.Referent.the-variants.{Missing, Found}
 use Rattle.blocks.proofs.Booleans.{and-both}
-pub use Rattle.blocks.proofs.Sets.{held-high}
-use Rattle.blocks.proofs.Sets.{found-member, missing-none, member-found as set-found, referent-slot}
+use Rattle.blocks.proofs.Sets.{found-member, missing-none, member-found, referent-slot}
 use Rattle.blocks.proofs.Slots.{block, slotOf, Slots, held-slots}
 use Rattle.history.specs.Ledgers.{without}
 use Rattle.history.proofs.Agreement.{Proper, none, more}
@@ -42,12 +41,9 @@ apart (more a d p) b c (List·Memᴰ·tail i) (List·Memᴰ·tail j) q h k = apa
 pub proper-set : {t m : ℕ} {bs : List Block} → Proper t m bs → BlockSet t m bs
 proper-set p = record { aligned = member-aligned p; apart = apart p }
 
-pub member-found : {t m : ℕ} {bs : List Block} → Proper t m bs → (b : Block) → List·Memᴰ b bs → (q : ℕ) → holds b q ≡ true → referentOf bs q ≡ Found (b .start) (b .order)
-member-found {t} {m} {bs} p b i q h = set-found t m bs (proper-set p) b q i h
-
 -- each address of the block found has it for its referent
 pub whole : {t m : ℕ} {bs : List Block} → Proper t m bs → (s e q : ℕ) → referentOf bs q ≡ Found s e → (r : ℕ) → holds (block s e) r ≡ true → referentOf bs r ≡ Found s e
-whole {bs = bs} p s e q h r i = member-found p (block s e) (found-member bs q s e h .mem) r i
+whole {t} {m} {bs} p s e q h r i = member-found t m bs (proper-set p) (block s e) r (found-member bs q s e h .mem) i
 
 -- ---- free slots
 

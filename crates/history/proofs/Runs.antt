@@ -1,19 +1,22 @@
 -- The simulation over a list of calls: a heap and a ledger that agree give the same answers, and agree at the end.
 use Prim.Native.Nat.{ℕ, zero, suc, _+_, _-_, _^_, _≤_}
-use mathlib.Core.Path.{_≡_, refl, _∙_, ap, ap₂}
+use mathlib.Core.Path.{_≡_, refl, sym, _∙_, ap, ap₂, subst}
+use mathlib.Core.Bool.{false}
 use mathlib.Core.List.{List, [], _∷_}
 use lib.ListN.{length, replicate, length-replicate}
 use Rattle.blocks.specs.Sets.{referentOf, entriesFrom, tableOf}
 use Rattle.blocks.specs.Orders.{orderOf}
 use Rattle.blocks.proofs.Orders.{order-power}
 use Rattle.heap.specs.Views.{slotOrder}
-use Rattle.heap.specs.Heaps.{Heap, heapCall, freshHeap}
+use Rattle.heap.specs.Effects.{Outcome}
+use Rattle.heap.specs.Heaps.{Heap, heapView, viewOf, heapCall, heapFresh, freshHeap, outcome}
 use Rattle.heap.specs.declared.Answer.{Answer}
 use Rattle.heap.specs.declared.Call.{Call}
 use Rattle.history.specs.Ledgers.{Ledger, ledgerStep, emptyLedger}
 use Rattle.history.specs.Runs.{Run, run}
+use Rattle.history.specs.Demand3.{accepted}
 use Rattle.history.proofs.Agreement.{none, Agree, Same}
-use Rattle.history.proofs.Simulation.{step-same}
+use Rattle.history.proofs.Simulation.{right-sizes, step-same}
 
 -- the table of no block is all zero
 no-entries : (t a k : ℕ) → replicate k 0 ≡ entriesFrom t [] a k
@@ -24,6 +27,17 @@ no-entries t a (suc k) = ap (λ (x : List ℕ). 0 ∷ x) (no-entries t (a + 2 ^ 
 pub fresh-agree : (m : ℕ) → Agree m (freshHeap m) (emptyLedger m)
 unfolding tableOf
 fresh-agree m = record { bytes = refl; size = length-replicate (2 ^ m) 0; table = no-entries slotOrder _ (2 ^ (m - slotOrder)); proper = none }
+
+-- fresh, where the lengths fit
+pub fresh-is : (m : ℕ) (h : Heap) → 5 ≤ m → m ≤ 16 → length (h .arena) ≡ 2 ^ m → length (h .table) ≡ 2 ^ (m - slotOrder) → heapFresh h ≡ record { answer = accepted 0; state = freshHeap m }
+unfolding heapFresh
+fresh-is m h five top a t =
+    let o : m ≡ orderOf (length (h .arena)) = sym (ap orderOf a ∙ order-power m five top) in
+    let w : viewOf h .wrong-sizes ≡ false = subst (λ (k : ℕ). heapView k h .wrong-sizes ≡ false) o (right-sizes m h five top a t) in
+    rw w (ap₂ (λ (i k : ℕ). outcome (accepted 0) (replicate i 0) (replicate k 0)) a t)
+
+pub fresh-made : (m : ℕ) (h : Heap) → 5 ≤ m → m ≤ 16 → length (h .arena) ≡ 2 ^ m → length (h .table) ≡ 2 ^ (m - slotOrder) → heapFresh h .state ≡ freshHeap m
+fresh-made m h five top a t = ap (λ (o : Outcome Heap). o .state) (fresh-is m h five top a t)
 
 -- a call takes the order from the arena's length, which stays 2 ^ m
 pub order-same : (m : ℕ) → 5 ≤ m → m ≤ 16 → (h : Heap) (l : Ledger) → Agree m h l → orderOf (length (h .arena)) ≡ m

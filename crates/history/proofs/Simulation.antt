@@ -1,16 +1,16 @@
 -- One call: a heap and a ledger that agree look alike to every rule, answer alike, and agree again.
 use Prim.Native.Nat.{ℕ, zero, suc, _+_, _-_, _*_, _%_, _^_, _≤_, _<_}
 use mathlib.Core.Path.{_≡_, refl, sym, _∙_, ap, subst, fun-ext}
-use mathlib.Core.Bool.{Bool, true, false, not, cond, _&&_, false≢true}
+use mathlib.Core.Bool.{Bool, true, false, not, cond, false≢true}
 use mathlib.Core.List.{List, [], _∷_, _++_}
 use native.Mathlib.Omega.{arith}
 use native.Mathlib.Nat.{mul-assoc, zero-add}
-use lib.Dec.{leb, ltb, eqb}
+use lib.Dec.{ltb, eqb}
 use lib.IntN.{ℤ, pos, negsuc, natAbs, pos-ne-negsuc}
 use lib.ListN.{length, getD, set, replicate, length-set, length-replicate}
 use lib.Pow.{pow-pos, pow-add, pow-mono}
-use borrow.Author.Tests.{ltb-true, ltb-false, le-leb, eqb-true, eq-eqb, not-false}
-use Rattle.common.specs.Refusals.{Refusal, _when_, first}
+use borrow.Author.Tests.{ltb-false, le-leb, eqb-true, eq-eqb, not-false}
+use Rattle.common.specs.Refusals.{Refusal, first}
 use Rattle.common.specs.Bytes.{over, bytesOf, copied}
 use Rattle.common.proofs.Bytes.{length-over, length-bytesOf}
 use Rattle.blocks.specs.Blocks.{base, floor, Block, holds, Aligned, missing, orderIn, leftIn}
@@ -22,7 +22,7 @@ use Rattle.blocks.specs.declared.Place.{Place}
 use Rattle.blocks.specs.declared.Place.the-variants.{At, Nothing}
 use Rattle.blocks.specs.declared.Referent.{Referent}
 use Rattle.blocks.specs.declared.Referent.the-variants.{Missing, Found}
-use Rattle.blocks.proofs.Booleans.{and-left, and-right, and-both, or-false-right}
+use Rattle.blocks.proofs.Booleans.{and-both, or-false-right}
 use Rattle.blocks.proofs.Floors.{floor-multiple, floor-base, pow-split}
 use Rattle.blocks.proofs.Sets.{held-low, held-high, found-member, found-aligned}
 use Rattle.blocks.proofs.SetTables.{table-length, free-missing, referent-same, table-undamaged}
@@ -34,8 +34,10 @@ use Rattle.heap.specs.Views.{View, slotOrder, referentOfPointer, placeFor, noPl
 use Rattle.heap.specs.Rules.{rules, argumentRules, stateRules, not-start}
 use Rattle.heap.specs.Effects.{copyCount, fillCount, value, stored, cleared, settled, judged}
 use Rattle.heap.specs.Heaps.{Heap, heapOf, insideByCheck, heapView, stamped, entered, heapStep}
+use Rattle.heap.specs.Judging.{Sound}
 use Rattle.heap.specs.declared.Call.{Call}
 use Rattle.heap.specs.declared.Call.the-variants.{Get, Give, Step, Read, Write, Left, Copy, Fill}
+use Rattle.heap.proofs.Judging.{clear}
 use Rattle.history.specs.Ledgers.{Ledger, ledgerView, without, kept, ledgerStep}
 use Rattle.history.proofs.Agreement.{Proper, Agree, Same}
 use Rattle.history.proofs.Pairs.{holds-by, proper-set, whole, unheld, free-slots, without-in, without-out, without-proper, added-in, added-out, added-proper}
@@ -82,14 +84,17 @@ module _ {m : ℕ} {bs : List Block} (top : m ≤ 16) (proper : Proper slotOrder
       go (pos h) e = at h e (referentOf bs h) refl
       go (negsuc n) e = refl
 
+-- buffers of these lengths are not refused by 8
+pub right-sizes : (m : ℕ) (h : Heap) → 5 ≤ m → m ≤ 16 → length (h .arena) ≡ 2 ^ m → length (h .table) ≡ 2 ^ (m - slotOrder) → heapView m h .wrong-sizes ≡ false
+right-sizes m h five top a t = ap not (and-both (le-leb 5 m five) (and-both (le-leb m 16 top) (and-both (eq-eqb _ _ a) (eq-eqb _ _ t))))
+
 pub view-same : (m : ℕ) → 5 ≤ m → m ≤ 16 → (h : Heap) (l : Ledger) → Agree m h l → heapView m h ≡ ledgerView l
 view-same m five top h l g =
     let four : slotOrder ≤ m = omega arith in
     let one : 1 ≤ slotOrder = omega arith in
     let set = proper-set (g .proper) in
     let s : length (h .table) ≡ 2 ^ (m - slotOrder) = ap length (g .table) ∙ table-length slotOrder m (l .pairs) in
-    let a : not (leb 5 m && (leb m 16 && (eqb (length (h .arena)) (2 ^ m) && eqb (length (h .table)) (2 ^ (m - slotOrder))))) ≡ false =
-    ap not (and-both (le-leb 5 m five) (and-both (le-leb m 16 top) (and-both (eq-eqb _ _ (g .size)) (eq-eqb _ _ s)))) in
+    let a = right-sizes m h five top (g .size) s in
     let d : damagedBy slotOrder m (h .table) ≡ false = ap (damagedBy slotOrder m) (g .table) ∙ table-undamaged slotOrder m one four (l .pairs) set in
     let f : (i : ℕ) → freeIn (h .table) i ≡ missing (referentOf (l .pairs) (base + i * 2 ^ slotOrder)) = λ i. ap (λ (x : List ℕ). freeIn x i) (g .table) ∙ free-missing slotOrder m one four (l .pairs) set i in
     let r : referentIn slotOrder (h .table) ≡ referentOf (l .pairs) = fun-ext (λ q. ap (λ (x : List ℕ). referentIn slotOrder x q) (g .table) ∙ referent-same slotOrder m one four (l .pairs) set q) in
@@ -97,26 +102,16 @@ view-same m five top h l g =
     λ p i. ap (λ (x : ℕ → Referent). insideByCheck (referentAt x (sought slotOrder p)) p i) r ∙ inside-same top (g .proper) p i in
     λ i. record { wrong-sizes = a i; damaged = d i; free = λ j. f j i; referent = r i; inside = λ p k. n p k i }
 
--- ---- what it means that no refusal of a list applies
-
--- the condition of the number k in the list
-abbrev condOf : ℕ → List Refusal → Bool
-condOf k [] = false
-condOf k ((n when b) ∷ rs) = cond (eqb n k) b (condOf k rs)
-
-abbrev positive : List Refusal → Bool
-positive [] = true
-positive ((n when b) ∷ rs) = ltb 0 n && positive rs
-
--- where none applies, the condition of each number is false, in whatever order the list has them
-clear : (rs : List Refusal) → positive rs ≡ true → first rs ≡ 0 → (k : ℕ) → condOf k rs ≡ false
-clear [] h e k = refl
-clear ((n when b) ∷ rs) h e k = go (clear rs (and-right (ltb 0 n) _ h)) b e (eqb n k)
-  where
-    go : (first rs ≡ 0 → (k : ℕ) → condOf k rs ≡ false) → (b : Bool) → cond b n (first rs) ≡ 0 → (t : Bool) → cond t b (condOf k rs) ≡ false
-    go ih true x t = let z : 0 < n = ltb-true 0 n (and-left _ _ h) in absurd (omega arith)
-    go ih false x true = refl
-    go ih false x false = ih x k
+-- the lengths fit and the table is undamaged, so a list of calls never scans it
+pub agree-sound : (m : ℕ) → 5 ≤ m → m ≤ 16 → (h : Heap) (l : Ledger) → Agree m h l → Sound m (h .arena) (h .table)
+agree-sound m five top h l g =
+    record {
+      low = five;
+      high = top;
+      size = g .size;
+      slots = ap length (g .table) ∙ table-length slotOrder m (l .pairs);
+      whole = ap (λ (w : View). w .damaged) (view-same m five top h l g);
+    }
 
 -- ---- the place of a get
 

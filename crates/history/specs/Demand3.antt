@@ -1,8 +1,8 @@
 -- Demand 3: the claim about a whole list of calls from a fresh heap of 2 ^ m bytes, as document 01, "What demand 3 compares", spells it out.
 use Prim.Native.Nat.{ℕ, _+_, _-_, _%_, _^_, _<_}
 use mathlib.Core.Path.{_≡_}
-use mathlib.Core.Bool.{Bool, true, false}
-use mathlib.Core.List.{List, [], _∷_, _++_, List·Memᴰ}
+use mathlib.Core.Bool.{true}
+use mathlib.Core.List.{List, _∷_, _++_, List·Memᴰ}
 use lib.IntN.{pos}
 use lib.ListN.{length, getD}
 use Rattle.blocks.specs.Blocks.{Block, holds}
@@ -10,8 +10,7 @@ use Rattle.blocks.specs.Sets.{BlockSet, tableOf}
 use Rattle.blocks.specs.Pointers.{markBit, exactSum, within, inReach}
 use Rattle.blocks.specs.declared.Referent.the-variants.{Found}
 use Rattle.heap.specs.Views.{slotOrder}
-use Rattle.heap.specs.Heaps.{Heap, heapCall, heapCheck, bit}
-use Rattle.heap.specs.Effects.{Outcome}
+use Rattle.heap.specs.Heaps.{Heap, heapCall, heapFresh, freshHeap, heapCheck, bit}
 use Rattle.heap.specs.declared.Answer.{Answer}
 use Rattle.heap.specs.declared.Call.{Call}
 use Rattle.heap.specs.declared.Call.the-variants.{Step}
@@ -36,6 +35,8 @@ abbrev pub live : ℕ → List Call → List Block
 live m cs = liveBy m cs (answersOf m cs)
 
 pub record Demand3 (m : ℕ) (cs : List Call) : Type 0 where
+  -- the list starts from the two buffers as fresh leaves them, whatever they held
+  pub start : (h : Heap) → length (h .arena) ≡ 2 ^ m → length (h .table) ≡ 2 ^ (m - slotOrder) → heapFresh h ≡ record { answer = accepted 0; state = freshHeap m }
   -- all numbers and values, in the calls' order, and all arena bytes equal the ledger's
   pub answers : answersOf m cs ≡ ledgerRun m cs .answers
   pub bytes : after m cs .arena ≡ ledgerRun m cs .last .bytes

@@ -1,10 +1,10 @@
 -- Document 01, "What demand 3 compares": what holds by the history, which is the arguments and answers of the listed calls alone.
-use Prim.Native.Nat.{ℕ, zero, suc, _+_, _*_, _^_, _≤_}
+use Prim.Native.Nat.{ℕ, _^_, _≤_}
 use mathlib.Core.Path.{_≡_}
 use mathlib.Core.Bool.{Bool, true, false, cond, _&&_, _||_}
 use mathlib.Core.List.{List, [], _∷_, List·Memᴰ}
 use lib.Dec.{eqb}
-use Rattle.blocks.specs.Blocks.{base, Block, holds, Aligned}
+use Rattle.blocks.specs.Blocks.{Block, holds, Aligned}
 use Rattle.blocks.specs.Orders.{neededOrder}
 use Rattle.heap.specs.Views.{slotOrder}
 use Rattle.heap.specs.declared.Answer.{Answer}

@@ -1,6 +1,6 @@
 -- Document 01, "The ledger": the abstract heap. A set of pairs of a start and an order, and bytes; no table, shift or xor.
 use Prim.Native.Nat.{ℕ, _+_, _*_, _^_}
-use mathlib.Core.Bool.{Bool, false, cond}
+use mathlib.Core.Bool.{false, cond}
 use mathlib.Core.List.{List, [], _∷_, _++_}
 use lib.Dec.{eqb}
 use lib.ListN.{replicate}
@@ -21,12 +21,12 @@ pub record Ledger : Type 0 where
 -- A referent is the pair whose range holds the address; a slot in no range is free; a step is inside by comparing the exact sum with the range. Nothing is ever damaged.
 abbrev pub ledgerView : Ledger → View
 ledgerView l =
-    record
-    { wrong-sizes = false
-    ; damaged = false
-    ; free = λ i. missing (referentOf (l .pairs) (base + i * 2 ^ slotOrder))
-    ; referent = referentOf (l .pairs)
-    ; inside = λ p i. within (referentAt (referentOf (l .pairs)) (sought slotOrder p)) (exactSum (address p) i)
+    record {
+      wrong-sizes = false;
+      damaged = false;
+      free = λ i. missing (referentOf (l .pairs) (base + i * 2 ^ slotOrder));
+      referent = referentOf (l .pairs);
+      inside = λ p i. within (referentAt (referentOf (l .pairs)) (sought slotOrder p)) (exactSum (address p) i);
     }
 
 -- the pairs without the one that starts at s

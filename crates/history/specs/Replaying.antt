@@ -1,5 +1,5 @@
 -- A list of calls as bytes, and what `replay` makes of it and of the buffers that it is lent. The ledger alone says what comes out.
-use Prim.Native.Nat.{ℕ, zero, suc, _+_, _-_, _*_, _/_, _%_, _^_}
+use Prim.Native.Nat.{ℕ, zero, suc, _+_, _*_, _/_, _%_}
 use mathlib.Core.Bool.{Bool, false, not, cond, _&&_, _||_}
 use mathlib.Core.List.{List, [], _∷_}
 use lib.Dec.{leb, ltb, eqb}
@@ -64,14 +64,17 @@ pub record Replayed : Type 0 where
   pub heap : Heap
   pub answers : List ℕ
 
+abbrev pub replayed : ℕ → List ℕ → List ℕ → List ℕ → Replayed
+replayed n a t out = record { number = n; heap = heapOf a t; answers = out }
+
 abbrev pub replaySettled : ℕ → List ℕ → Heap → List ℕ → Replayed
 replaySettled zero calls h out =
     let m = orderOf (length (h .arena)) in
     let l = ledgerRun m (callsOf calls) in
-    record
-    { number = 0
-    ; heap = heapOf (l .last .bytes) (tableOf slotOrder m (l .last .pairs))
-    ; answers = over out 0 (answersBytes (l .answers))
+    record {
+      number = 0;
+      heap = heapOf (l .last .bytes) (tableOf slotOrder m (l .last .pairs));
+      answers = over out 0 (answersBytes (l .answers));
     }
 replaySettled (suc n) calls h out = record { number = suc n; heap = h; answers = out }
 

@@ -1,12 +1,12 @@
 -- Fields one after the other: what stands at column k of a row, by the number of its kind.
-use Prim.Native.Nat.{ℕ, zero, suc, _+_, _-_, _*_, _/_, _%_, _≤_, _<_}
+use Prim.Native.Nat.{ℕ, zero, suc, _+_, _*_, _/_, _%_, _≤_, _<_}
 use mathlib.Core.Path.{_≡_, refl, sym, _∙_, ap, subst}
 use mathlib.Core.Bool.{Bool, true, false, cond, _||_}
 use mathlib.Core.List.{List, [], _∷_, _++_, map}
 use native.Mathlib.Omega.{arith}
 use native.Mathlib.Numerals.{add-one}
-use native.Mathlib.Nat.{add-assoc, zero-add, add-zero, mod-eq-of-lt}
-use lib.Dec.{eqb, ltb}
+use native.Mathlib.Nat.{add-zero}
+use lib.Dec.{eqb}
 use lib.ListN.{length, getD, take, drop, set, drop-of-length-le}
 use borrow.Author.Tests.{ne-eqb}
 use lib.Seq.{drop-nil, drop-drop, getD-drop, sets}
@@ -14,7 +14,6 @@ use Rattle.takes.specs.Operations.{Kind, register, byte, word, kindsOf, 
 use Rattle.takes.specs.Reading.{value, values, above15, highRegister}
 use Rattle.takes.specs.Writing.{fieldBytes, valueBytes}
 use Rattle.takes.specs.Table.{code, kindAt, sizeAt, highAt, bytesAt}
-use Rattle.takes.specs.RoundTrips.{Bytes}
 
 -- the number of the kind at column k
 abbrev pub codeAt : List Kind → ℕ → ℕ

@@ -1,14 +1,12 @@
 -- The judging of a file's head, and its writing: the answer at each return.
-use Prim.Native.Nat.{ℕ, _+_, _≤_, _<_}
-use mathlib.Core.Path.{_≡_, refl, sym, _∙_, ap}
-use mathlib.Core.Bool.{Bool, true, false}
-use mathlib.Core.List.{List, [], _∷_, _++_}
+use Prim.Native.Nat.{ℕ, _≤_, _<_}
+use mathlib.Core.Path.{_≡_, refl}
+use mathlib.Core.List.{List, [], _∷_}
 use native.Mathlib.Omega.{arith}
 use lib.ListN.{length, getD, drop, set}
-use lib.Seq.{sets-eq}
 use borrow.Author.Tests.{lt-ltb, le-ltb, le-leb, lt-leb, eq-eqb, ne-eqb}
 use Rattle.takes.specs.Files.{longest, headNumber}
-use Rattle.takes.specs.Writing.{Stored, writeHead}
+use Rattle.takes.specs.Writing.{writeHead}
 
 module _ (s : List ℕ) where
   pub empty : length s ≡ 0 → 1 ≡ headNumber s

@@ -1,17 +1,16 @@
 -- The judging of a whole file: what an accepted head is, and the loop over the records.
-use Prim.Native.Nat.{ℕ, zero, suc, _+_, _-_, _≤_, _<_}
+use Prim.Native.Nat.{ℕ, suc, _+_, _≤_, _<_}
 use mathlib.Core.Path.{_≡_, refl, sym, _∙_, ap}
-use mathlib.Core.Bool.{Bool, true, false, not, cond, _||_, _&&_}
+use mathlib.Core.Bool.{Bool, true, false, not, cond, _||_}
 use mathlib.Core.List.{List, [], _∷_}
 use native.Mathlib.Omega.{arith}
 use lib.Dec.{eqb, leb, ltb}
 use lib.ListN.{length, getD, take}
 use borrow.Author.Tests.{ltb-false, leb-true, eqb-true, eqb-false, ne-eqb, not-false}
 use Rattle.takes.specs.Reading.{refused, readAt}
-use Rattle.takes.specs.Files.{Walk, ended, before, walkFrom, headLength, longest, sizeByte, isSize, headNumber, recordsNumber, fileNumber, recordsOf, judgement}
+use Rattle.takes.specs.Files.{Walk, ended, walkFrom, headLength, longest, sizeByte, isSize, headNumber, recordsNumber, fileNumber, recordsOf, judgement}
 use Rattle.takes.specs.Writing.{headBytes}
 use Rattle.takes.specs.declared.Record.{Record}
-use Rattle.takes.specs.declared.Judgement.{Judgement}
 use Rattle.takes.proofs.Operations.{and-left, and-right}
 use Rattle.takes.proofs.Readings.{or-left, or-right}
 use Rattle.takes.proofs.Walks.{Next, from-end, from-refused, refused-number}

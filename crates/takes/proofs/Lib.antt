@@ -1,7 +1,6 @@
 mod Operations
 mod Fields
 mod Heads
-mod Writing
 mod Records
 pub mod Readings
 pub mod Walks

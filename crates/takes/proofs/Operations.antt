@@ -2,14 +2,14 @@
 use Prim.Native.Nat.{ℕ, zero, suc, _+_, _*_, _/_, _%_, _≤_, _<_}
 use mathlib.Core.Path.{_≡_, refl, sym, _∙_, ap, subst}
 use mathlib.Core.Bool.{Bool, true, false, _||_, _&&_, cond, false≢true}
-use mathlib.Core.List.{List, [], _∷_, map}
+use mathlib.Core.List.{List, [], _∷_}
 use native.Mathlib.Omega.{arith}
 use native.Mathlib.Nat.{add-zero, zero-add, add-suc, suc-add, le-of-suc-le-suc, not-suc-le-zero}
 use lib.Dec.{T, eqb, leb, ltb, eqb→eq}
-use lib.ListN.{length, getD, take, drop}
+use lib.ListN.{length, getD}
 use borrow.Author.Tests.{eqb-true, ltb-true, leb-true}
-use Rattle.takes.specs.Operations.{Kind, register, byte, word, Row, _has_, operations, knownIn, known, kindsOf, size, sizes, lengthOf}
-use Rattle.takes.specs.Table.{rows, columns, lengthIn, code, kindAt}
+use Rattle.takes.specs.Operations.{Row, _has_, operations, knownIn, known, kindsOf, sizes, lengthOf}
+use Rattle.takes.specs.Table.{rows, columns, lengthIn, kindAt}
 
 pub and-left : (a b : Bool) → (a && b) ≡ true → a ≡ true
 and-left true b h = refl

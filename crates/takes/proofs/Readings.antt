@@ -1,9 +1,9 @@
 -- The reader's rules: what an accepted record is, and the answer at each of the code's returns.
-use Prim.Native.Nat.{ℕ, zero, suc, _+_, _-_, _≤_, _<_}
-use mathlib.Core.Path.{_≡_, refl, sym, _∙_, ap, subst}
-use mathlib.Core.Bool.{Bool, true, false, not, cond, _||_, false≢true}
+use Prim.Native.Nat.{ℕ, suc, _+_, _-_, _≤_, _<_}
+use mathlib.Core.Path.{_≡_, refl, sym, _∙_, ap}
+use mathlib.Core.Bool.{Bool, true, false, cond, _||_, false≢true}
 use mathlib.Core.Logic.{_⊎_, inl, inr}
-use mathlib.Core.List.{List, [], _∷_}
+use mathlib.Core.List.{List}
 use native.Mathlib.Omega.{arith}
 use native.Mathlib.Nat.{add-zero}
 use lib.Dec.{eqb, ltb}
@@ -12,7 +12,7 @@ use lib.Seq.{getD-drop, drop-drop}
 use borrow.Author.Tests.{lt-ltb, le-ltb, ltb-false, eq-eqb, ne-eqb, eqb-true, eqb-false}
 use Rattle.takes.specs.Operations.{known, kindsOf, sizes, lengthOf}
 use Rattle.takes.specs.Records.{recordOf}
-use Rattle.takes.specs.Reading.{lengthByte, operationByte, fieldValues, values, highRegister, Given, accepted, refused, readRules, readBytes, readAt}
+use Rattle.takes.specs.Reading.{lengthByte, operationByte, fieldValues, values, highRegister, accepted, refused, readRules, readBytes, readAt}
 use Rattle.takes.specs.Table.{lengthIn}
 use Rattle.takes.specs.declared.Record.{Record}
 

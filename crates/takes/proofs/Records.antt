@@ -1,24 +1,24 @@
 -- The record of an operation from the bytes of its fields, and a record's bytes.
-use Prim.Native.Nat.{ℕ, zero, suc, _+_, _%_, _≤_, _<_}
+use Prim.Native.Nat.{ℕ, _+_, _%_, _≤_, _<_}
 use mathlib.Core.Path.{_≡_, refl, sym, _∙_, ap}
 use mathlib.Core.Bool.{Bool, true, false, cond}
-use mathlib.Core.List.{List, [], _∷_, _++_}
+use mathlib.Core.List.{List, _∷_, _++_}
 use native.Mathlib.Omega.{arith}
 use native.Mathlib.Nat.{mod-eq-of-lt, zero-add}
 use lib.Dec.{eqb}
-use lib.ListN.{length, getD, take, drop, set, length-set}
+use lib.ListN.{length, getD, take, drop, set}
 use lib.Seq.{getD-drop, sets, sets-eq}
 use borrow.Author.Tests.{lt-ltb, le-ltb}
-use Rattle.takes.specs.Operations.{Kind, known, kindsOf, sizes, lengthOf}
+use Rattle.takes.specs.Operations.{Kind, known, kindsOf, sizes}
 use Rattle.takes.specs.Records.{operation, fields, recordOf}
-use Rattle.takes.specs.Reading.{value, values, highRegister}
-use Rattle.takes.specs.Writing.{Stored, valueBytes, recordBytes, writeRecord}
+use Rattle.takes.specs.Reading.{values, highRegister}
+use Rattle.takes.specs.Writing.{valueBytes, recordBytes, writeRecord}
 use Rattle.takes.specs.Table.{lengthIn, kindAt, padded}
 use Rattle.takes.specs.RoundTrips.{Bytes}
 use Rattle.takes.specs.declared.Record.{Record}
 use Rattle.takes.specs.declared.Record.the-variants.{Get, Give, Step, Read, Write, Left, Copy, Fill}
 use Rattle.takes.proofs.Operations.{InTable, in-table}
-use Rattle.takes.proofs.Fields.{codeAt, valueAt, value-at}
+use Rattle.takes.proofs.Fields.{codeAt, value-at}
 
 pub bytes-drop : (n : ℕ) (bs : List ℕ) → Bytes bs → Bytes (drop n bs)
 bytes-drop n bs h i = rw getD-drop (h (n + i))
@@ -107,6 +107,9 @@ sound (Write a w v) = record { in-table = refl; bytes = refl; columns = refl; pa
 sound (Left d a) = record { in-table = refl; bytes = refl; columns = refl; padded-high = refl; padded-bytes = refl }
 sound (Copy d a b n) = record { in-table = refl; bytes = refl; columns = refl; padded-high = refl; padded-bytes = refl }
 sound (Fill d a v n) = record { in-table = refl; bytes = refl; columns = refl; padded-high = refl; padded-bytes = refl }
+
+pub taken-apart : {r s : Record} → r ≡ s → (operation s ≡ operation r) × (padded (fields s) ≡ padded (fields r))
+taken-apart e = (sym (ap operation e), sym (ap (λ (r : Record). padded (fields r)) e))
 
 -- The writer's returns, op and vs being the record taken apart.
 module _ (r : Record) (out : List ℕ) (op : ℕ) (vs : List ℕ) (taken : (op ≡ operation r) × (vs ≡ padded (fields r))) where

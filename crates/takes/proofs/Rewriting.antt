@@ -1,17 +1,17 @@
 -- An accepted file written anew, record by record.
-use Prim.Native.Nat.{ℕ, zero, suc, _+_, _-_, _≤_, _<_}
+use Prim.Native.Nat.{ℕ, _+_, _-_, _≤_, _<_}
 use mathlib.Core.Path.{_≡_, refl, sym, _∙_, ap, ap₂}
 use mathlib.Core.Bool.{Bool, true, false, cond}
 use mathlib.Core.List.{List, [], _∷_, _++_, append-assoc, append-nil}
 use native.Mathlib.Omega.{arith}
 use native.Mathlib.Nat.{add-assoc}
 use lib.Dec.{eqb}
-use lib.ListN.{length, getD, take, drop, length-append, length-take, length-drop, drop-of-length-le}
+use lib.ListN.{length, take, drop, length-append, length-drop, drop-of-length-le}
 use lib.Seq.{drop-drop, take-add, take-at, drop-at, take-all, length-take-le}
 use borrow.Author.Tests.{lt-ltb, le-ltb, ne-eqb, eqb-true}
 use Rattle.takes.specs.Reading.{lengthByte}
-use Rattle.takes.specs.Files.{headLength, sizeByte, walkFrom, Walk, fileNumber, recordsNumber, recordsOf, judgement}
-use Rattle.takes.specs.Writing.{Stored, stored, headBytes, recordBytes, writeHead, writeRecord, rewriteFile}
+use Rattle.takes.specs.Files.{headLength, sizeByte, walkFrom, Walk, fileNumber, recordsOf, judgement}
+use Rattle.takes.specs.Writing.{Stored, stored, recordBytes, writeHead, writeRecord, rewriteFile}
 use Rattle.takes.specs.RoundTrips.{Bytes}
 use Rattle.takes.specs.declared.Record.{Record}
 use Rattle.takes.specs.declared.Judgement.{Judgement}
@@ -19,7 +19,7 @@ use Rattle.takes.specs.declared.Written.{Written}
 use Rattle.takes.proofs.Records.{bytes-drop}
 use Rattle.takes.proofs.Heads.{two-set, head-stored}
 use Rattle.takes.proofs.Readings.{Whole, theRecord}
-use Rattle.takes.proofs.Walks.{Next, nextPlace}
+use Rattle.takes.proofs.Walks.{Next}
 use Rattle.takes.proofs.Judging.{Head, head-accepted, head-bytes, file-accepted}
 use Rattle.takes.proofs.RoundTrips.{read-back, read-low}
 

@@ -1,28 +1,27 @@
 -- Both round trips: of a record at a place, and of whole files.
-use Prim.Native.Nat.{ℕ, zero, suc, _+_, _-_, _≤_, _<_}
+use Prim.Native.Nat.{ℕ, zero, suc, _+_, _-_, _≤_}
 use mathlib.Core.Path.{_≡_, refl, sym, _∙_, ap, ap₂}
-use mathlib.Core.Bool.{Bool, true, false, not, cond}
-use mathlib.Core.Logic.{_⊎_, inl, inr}
-use mathlib.Core.List.{List, [], _∷_, _++_, append-assoc, append-nil}
+use mathlib.Core.Bool.{Bool, true, false}
+use mathlib.Core.List.{List, [], _∷_, _++_}
 use native.Mathlib.Omega.{arith}
 use native.Mathlib.Nat.{add-assoc}
-use lib.Dec.{eqb, ltb}
-use lib.ListN.{length, getD, take, drop, length-append, length-drop, take-append-drop, drop-of-length-le}
+use lib.Dec.{ltb}
+use lib.ListN.{length, take, drop, length-append, length-drop, take-append-drop, drop-of-length-le}
 use lib.Seq.{drop-drop, drop-append-seam}
 use borrow.Author.Tests.{ltb-true, ltb-false}
 use Rattle.takes.specs.Operations.{known, kindsOf, sizes, lengthOf}
 use Rattle.takes.specs.Records.{operation, fields, recordOf}
 use Rattle.takes.specs.Reading.{lengthByte, operationByte, fieldValues, values, highRegister}
-use Rattle.takes.specs.Files.{Walk, ended, before, walkFrom, headLength, longest, sizeByte, headNumber, recordsNumber, fileNumber, recordsOf}
-use Rattle.takes.specs.Writing.{valueBytes, recordBytes, headBytes, recordsBytes, fileOf}
-use Rattle.takes.specs.RoundTrips.{AllFit, RecordFits, RecordsFit, Bytes, ReadsBack, RoundTrips}
+use Rattle.takes.specs.Files.{Walk, before, walkFrom, headLength, headNumber, recordsOf}
+use Rattle.takes.specs.Writing.{valueBytes, recordBytes, recordsBytes, fileOf}
+use Rattle.takes.specs.RoundTrips.{RecordFits, RecordsFit, Bytes, RoundTrips}
 use Rattle.takes.specs.declared.Record.{Record}
 use Rattle.takes.specs.declared.Record.the-variants.{Get, Give, Step, Read, Write, Left, Copy, Fill}
 use Rattle.takes.proofs.Operations.{every-operation}
 use Rattle.takes.proofs.Bytes.{values-forth, fit-low, values-back}
-use Rattle.takes.proofs.Records.{Sound, sound, bytes-drop}
+use Rattle.takes.proofs.Records.{sound, bytes-drop}
 use Rattle.takes.proofs.Heads.{good}
-use Rattle.takes.proofs.Readings.{Whole, theRecord, read-cases}
+use Rattle.takes.proofs.Readings.{Whole, theRecord}
 use Rattle.takes.proofs.Walks.{nextPlace, whole-inside, from-end, from-found, accepted-whole}
 use Rattle.takes.proofs.Judging.{Head, head-accepted, head-bytes, file-accepted, number-is}
 

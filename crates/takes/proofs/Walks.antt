@@ -1,20 +1,17 @@
 -- The records from a place on: what is still to come, one record at a time.
 use Prim.Native.Nat.{ℕ, zero, suc, _+_, _-_, _≤_, _<_}
-use mathlib.Core.Path.{_≡_, refl, sym, _∙_, ap, subst}
-use mathlib.Core.Bool.{Bool, true, false, not, cond}
+use mathlib.Core.Path.{_≡_, refl, sym, _∙_, ap}
+use mathlib.Core.Bool.{Bool, true, false}
 use mathlib.Core.Logic.{_⊎_, inl, inr}
-use mathlib.Core.List.{List, [], _∷_}
-use mathlib.Core.Option.{Option, none, some}
+use mathlib.Core.List.{List}
+use mathlib.Core.Option.{none, some}
 use native.Mathlib.Omega.{arith}
-use lib.Dec.{eqb, ltb}
-use lib.ListN.{length, getD, drop, length-drop}
-use borrow.Author.Tests.{lt-ltb, le-ltb, ltb-true, ltb-false, eq-eqb, ne-eqb}
-use Rattle.takes.specs.Reading.{lengthByte, Given, accepted, refused, given, readAt}
-use Rattle.takes.specs.Files.{Walk, ended, before, walk, walkFrom, sizeByte, headNumber, recordsNumber, fileNumber, recordsOf, judgement}
+use lib.Dec.{ltb}
+use lib.ListN.{length, drop, length-drop}
+use borrow.Author.Tests.{lt-ltb, le-ltb, ltb-true, ltb-false}
+use Rattle.takes.specs.Reading.{lengthByte, Given, accepted, refused, readAt}
+use Rattle.takes.specs.Files.{Walk, ended, before, walk, walkFrom}
 use Rattle.takes.specs.declared.Record.{Record}
-use Rattle.takes.specs.declared.Reading.{Reading}
-use Rattle.takes.specs.declared.Reading.the-variants.{Found, Refused}
-use Rattle.takes.specs.declared.Judgement.{Judgement}
 use Rattle.takes.proofs.Readings.{Whole, theRecord, read-whole, read-cases}
 
 abbrev pub nextPlace : List ℕ → ℕ → ℕ

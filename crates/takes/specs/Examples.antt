@@ -1,7 +1,7 @@
 -- Document 01's worked take and refused files, judged by the definitions.
-use Prim.Native.Nat.{ℕ, _+_}
+use Prim.Native.Nat.{ℕ}
 use mathlib.Core.Path.{_≡_, refl}
-use mathlib.Core.List.{List, [], _∷_, _++_, map}
+use mathlib.Core.List.{List, [], _∷_, map}
 use lib.ListN.{replicate}
 use Rattle.takes.specs.Operations.{known, kindsOf, lengthOf}
 use Rattle.takes.specs.Records.{recordOf}
@@ -9,8 +9,7 @@ use Rattle.takes.specs.Reading.{readRules, readBytes, readAt, accepted, 
 use Rattle.takes.specs.Files.{walk, headNumber, fileNumber, recordsOf, judgement}
 use Rattle.takes.specs.Writing.{recordBytes, recordsBytes, fileOf}
 use Rattle.takes.specs.declared.Record.{Record}
-use Rattle.takes.specs.declared.Record.the-variants.{Get, Give, Step, Read, Write, Left, Copy, Fill}
-use Rattle.takes.specs.declared.Judgement.{Judgement}
+use Rattle.takes.specs.declared.Record.the-variants.{Get, Give, Step, Read}
 
 -- document 01's column of lengths
 lengths : map lengthOf (1 ∷ 2 ∷ 3 ∷ 4 ∷ 5 ∷ 6 ∷ 7 ∷ 8 ∷ []) ≡ 6 ∷ 2 ∷ 7 ∷ 4 ∷ 7 ∷ 3 ∷ 8 ∷ 8 ∷ []

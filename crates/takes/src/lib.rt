@@ -42,6 +42,11 @@ pub struct Written {
     pub count: u32,
 }
 
+// Where the first record starts, and how long a file may be.
+const HEAD: usize = 2;
+
+const LONGEST: usize = 8192;
+
 // The kinds of a field. Where an operation has no further field its row holds NONE.
 const NONE: u8 = 0;
 
@@ -57,38 +62,47 @@ const FIELDS: usize = 4;
 const LENGTHS: [u8; 9] = [0, 6, 2, 7, 4, 7, 3, 8, 8];
 
 const KINDS: [u8; 36] = [
+    // no operation
     NONE,
     NONE,
     NONE,
     NONE,
+    // get d n
     REGISTER,
     WORD,
     NONE,
     NONE,
+    // give a
     REGISTER,
     NONE,
     NONE,
     NONE,
+    // step d a i
     REGISTER,
     REGISTER,
     WORD,
     NONE,
+    // read d a w
     REGISTER,
     REGISTER,
     BYTE,
     NONE,
+    // write a w v
     REGISTER,
     BYTE,
     WORD,
     NONE,
+    // left d a
     REGISTER,
     REGISTER,
     NONE,
     NONE,
+    // copy d a b n
     REGISTER,
     REGISTER,
     REGISTER,
     WORD,
+    // fill d a v n
     REGISTER,
     REGISTER,
     BYTE,
@@ -260,10 +274,6 @@ pub fn read(file: &[u8], at: usize) -> Reading
     Reading::Found(record_at(file, from, op), place + length)
 }
 
-const HEAD: usize = 2;
-
-const LONGEST: usize = 8192;
-
 // A file's refusal by its head and its length, 0 where there is none.
 fn judge_head(file: &[u8]) -> u32
     ensures { λ r. ⌜ r ≡ headNumber (now (file .entry)) ⌝ }
@@ -330,7 +340,7 @@ pub fn judge(file: &[u8]) -> Judgement
 // A record's operation and the values of its fields, 0 where it has no further one.
 struct Parts {
     op: u8,
-    values: [u32; 4],
+    values: [u32; FIELDS],
 }
 
 fn parts_of(r: Record) -> Parts
@@ -374,7 +384,7 @@ fn parts_of(r: Record) -> Parts
 
 // Whether a record to be written has a register above 15.
 fn high_in_parts(p: Parts) -> bool
-    requires { ⌜ (known (p .op) ≡ true) × (length (p .values) ≡ 4) ⌝ }
+    requires { ⌜ (known (p .op) ≡ true) × (length (p .values) ≡ columns) ⌝ }
     ensures { λ r. ⌜ r ≡ highRegister (kindsOf (p .op)) (p .values) ⌝ }
 {
     let op = p.op;
@@ -409,7 +419,7 @@ fn put(out: &mut [u8], at: usize, kind: u8, v: u32)
 }
 
 fn put_fields(out: &mut [u8], p: Parts)
-    requires { ⌜ (known (p .op) ≡ true) × (length (p .values) ≡ 4) ⌝ }
+    requires { ⌜ (known (p .op) ≡ true) × (length (p .values) ≡ columns) ⌝ }
     requires { ⌜ 2 + sizes (kindsOf (p .op)) ≤ length (now out) ⌝ }
     ensures { λ _. ⌜ now (out .exit) ≡ sets (now (out .entry)) 2 (valueBytes (kindsOf (p .op)) (p .values)) ⌝ }
 {

@@ -5,7 +5,7 @@ use native.Mathlib.Omega.{arith}
 use borrow.Author.Needs.{needs}
 use lib.ListN.{length, take, drop}
 use Rattle.heap.specs.Heaps.{heapOf, shownFrom}
-use Rattle.heap.proofs.Showing.{shown-inside, shown-part, shown-place, shown-empty, shown-nowhere}
+use Rattle.heap.proofs.Showing.{shown-by-left, shown-inside, shown-part, shown-place, shown-empty, shown-nowhere}
 use Rattle.heap.proofs.show.Statement.{statement}
 use Rattle.heap.proofs.show.Tie as tie
 
@@ -27,7 +27,8 @@ returns c =
     let r = c .before .before .before .left in
     let n = c .before .if1 .taken in
     let q : 0 + a .arena .ptr .1 ≡ a .arena .ptr .1 + shownFrom (a .p) (heapOf (a .arena .now) (a .table .now)) = omega (arith, shown-nowhere (a .p) (a .arena .now) (a .table .now) (r .result) (r .ensures) n) in
-    (shown-empty (a .p) (a .arena .now) (a .table .now) (r .result) (r .ensures) n, ap (λ (x : ℕ). (a .arena .ptr .0, x)) q)
+    let w = shown-empty (a .p) (a .arena .now) (a .table .now) (r .result) (r .ensures) n in
+    (w, (w ∙ shown-by-left (a .p) (heapOf (a .arena .now) (a .table .now)), ap (λ (x : ℕ). (a .arena .ptr .0, x)) q))
 
 -- what an accepted left says of the part
 module _ (c : tie.Else1) where
@@ -66,7 +67,8 @@ returns-2 c =
     let z = k .if1 .left in
     let l : a .p - 65536 + r .result .value - (a .p - 65536) ≡ r .result .value = omega arith in
     let q : a .p - 65536 + a .arena .ptr .1 ≡ a .arena .ptr .1 + shownFrom (a .p) (heapOf (a .arena .now) (a .table .now)) = omega (arith, shown-place (a .p) (a .arena .now) (a .table .now) (r .result) (r .ensures) z) in
-    (ap (λ (n : ℕ). take n (drop (a .p - 65536) (a .arena .now))) l ∙ shown-part (a .p) (a .arena .now) (a .table .now) (r .result) (r .ensures) z, ap (λ (x : ℕ). (a .arena .ptr .0, x)) q)
+    let w = ap (λ (n : ℕ). take n (drop (a .p - 65536) (a .arena .now))) l ∙ shown-part (a .p) (a .arena .now) (a .table .now) (r .result) (r .ensures) z in
+    (w, (w ∙ shown-by-left (a .p) (heapOf (a .arena .now) (a .table .now)), ap (λ (x : ℕ). (a .arena .ptr .0, x)) q))
 
 pub show-spec : {M : Type 1} → statement M
 show-spec =

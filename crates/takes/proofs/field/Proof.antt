@@ -1,9 +1,7 @@
 -- `takes::field` meets its contract.
 use borrow.Author.Needs.{needs}
-use Prim.Native.Nat.{ℕ, _+_, _≤_}
-use mathlib.Core.Path.{_≡_, ap}
+use mathlib.Core.Path.{ap}
 use native.Mathlib.Omega.{arith}
-use Rattle.takes.specs.Operations.{kindsOf, sizes}
 use Rattle.takes.specs.Table.{sizeAt}
 use Rattle.takes.proofs.Fields.{start-fits, place-fits, no-field, word-field, byte-field, byte-size}
 use Rattle.takes.proofs.field.Statement.{statement}

@@ -1,10 +1,9 @@
 -- `takes::high_in_file` meets its contract. The loop: the columns still to come hold a high register where the whole record does.
-use Prim.Native.Nat.{ℕ, _+_, _-_, _≤_}
+use Prim.Native.Nat.{_-_, _≤_}
 use mathlib.Core.Path.{_≡_, refl, sym, _∙_, ap}
 use mathlib.Core.Bool.{true, false}
 use native.Mathlib.Omega.{arith}
-use lib.ListN.{length, drop}
-use borrow.Author.Needs.{needs}
+use lib.ListN.{drop}
 use Rattle.takes.specs.Operations.{kindsOf}
 use Rattle.takes.specs.Reading.{values, highRegister}
 use Rattle.takes.proofs.Operations.{in-table}

@@ -1,8 +1,8 @@
 -- `takes::high_in_parts` meets its contract. The loop: the columns still to come hold a high register where the whole record does.
-use Prim.Native.Nat.{ℕ, _+_, _-_, _≤_}
-use mathlib.Core.Path.{_≡_, refl, sym, _∙_, ap}
+use Prim.Native.Nat.{_-_, _≤_}
+use mathlib.Core.Path.{_≡_, refl, sym, _∙_}
 use native.Mathlib.Omega.{arith}
-use lib.ListN.{length, drop}
+use lib.ListN.{drop}
 use Rattle.takes.specs.Operations.{kindsOf}
 use Rattle.takes.specs.Reading.{highRegister}
 use mathlib.Core.Bool.{true, false}

@@ -1,9 +1,7 @@
 -- `takes::is_high` meets its contract.
-use mathlib.Core.Path.{_∙_, sym, ap}
-use Prim.Native.Nat.{ℕ}
+use mathlib.Core.Path.{_∙_, sym}
 use borrow.Author.Needs.{needs}
 use borrow.Author.Tests.{ne-eqb}
-use Rattle.takes.specs.Table.{highAt}
 use Rattle.takes.proofs.is_high.Statement.{statement}
 use Rattle.takes.proofs.is_high.Tie as tie
 

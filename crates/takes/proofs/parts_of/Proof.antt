@@ -1,6 +1,6 @@
 -- `takes::parts_of` meets its contract: each arm is given that the record is its variant.
 use borrow.Author.Needs.{needs}
-use Rattle.takes.proofs.Writing.{taken-apart}
+use Rattle.takes.proofs.Records.{taken-apart}
 use Rattle.takes.proofs.parts_of.Statement.{statement}
 use Rattle.takes.proofs.parts_of.Tie as tie
 

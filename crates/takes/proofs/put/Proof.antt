@@ -1,11 +1,9 @@
 -- `takes::put` meets its contract.
 use borrow.Author.Needs.{needs}
-use Prim.Native.Nat.{ℕ, _+_, _≤_}
+use Prim.Native.Nat.{_+_, _≤_}
 use native.Mathlib.Omega.{arith}
 use lib.ListN.{length, length-set}
-use mathlib.Core.Path.{_≡_, refl, sym, _∙_, ap, subst}
 use borrow.Author.Tests.{ne-eqb}
-use Rattle.takes.specs.Table.{sizeAt}
 use native.Mathlib.Numerals.{towards-suc}
 use Rattle.takes.proofs.put.Statement.{statement}
 use Rattle.takes.proofs.put.Tie as tie

@@ -1,5 +1,4 @@
 -- `takes::record_at` meets its contract: an arm for each operation.
-use borrow.Author.Needs.{needs}
 use native.Mathlib.Omega.{arith}
 use lib.ListN.{drop}
 use Rattle.takes.proofs.Operations.{in-table}

@@ -1,10 +1,9 @@
 -- `takes::word_at` meets its contract: four bytes, big-endian.
 use borrow.Author.Needs.{needs}
-use Prim.Native.Nat.{ℕ, _+_, _*_, _<_}
-use mathlib.Core.Path.{_≡_, refl, sym, _∙_, ap, subst}
+use Prim.Native.Nat.{_+_, _<_}
+use mathlib.Core.Path.{_≡_}
 use native.Mathlib.Omega.{arith}
-use lib.ListN.{length, getD, drop}
-use lib.Seq.{getD-drop}
+use lib.ListN.{getD}
 use Rattle.takes.proofs.Fields.{word-is}
 use Rattle.takes.proofs.word_at.Statement.{statement}
 use Rattle.takes.proofs.word_at.Tie as tie

@@ -1,8 +1,8 @@
 -- `takes::write_record` meets its contract.
 use borrow.Author.Needs.{needs}
-use mathlib.Core.Path.{_≡_, refl, sym, _∙_, ap}
+use mathlib.Core.Path.{sym, _∙_}
 use native.Mathlib.Omega.{arith}
-use lib.ListN.{length, length-set}
+use lib.ListN.{length-set}
 use Rattle.takes.proofs.Records.{part-known, part-columns, length-is, write-high, write-short, write-done}
 use Rattle.takes.proofs.write_record.Statement.{statement}
 use Rattle.takes.proofs.write_record.Tie as tie

@@ -1,0 +1,60 @@
+-- Records without cases, as C passes them, and the reader's and the writer's answers in those terms.
+use Prim.Native.Nat.{ℕ}
+use mathlib.Core.Bool.{cond, _&&_}
+use mathlib.Core.List.{List}
+use mathlib.Core.Option.{Option, none, some}
+use lib.Dec.{eqb, leb}
+use Rattle.heap.specs.declared.Answer.{Answer}
+use Rattle.takes.specs.Reading.{Given}
+use Rattle.takes.specs.Writing.{Stored, writeRecord}
+use Rattle.takes.specs.declared.Record.{Record}
+use Rattle.takes.specs.declared.Record.the-variants.{Get, Give, Step, Read, Write, Left, Copy, Fill}
+use Rattle.cabi.specs.declared.FlatRecord.{FlatRecord}
+use Rattle.cabi.specs.declared.Place.{Place}
+
+abbrev pub flatOf : (operation d a b byte word : ℕ) → FlatRecord
+flatOf o d a b y w = record { operation = o; d = d; a = a; b = b; byte = y; word = w }
+
+-- a field that the operation lacks is 0
+abbrev pub flat : Record → FlatRecord
+flat (Get d n) = flatOf 1 d 0 0 0 n
+flat (Give a) = flatOf 2 0 a 0 0 0
+flat (Step d a i) = flatOf 3 d a 0 0 i
+flat (Read d a w) = flatOf 4 d a 0 w 0
+flat (Write a w v) = flatOf 5 0 a 0 w v
+flat (Left d a) = flatOf 6 d a 0 0 0
+flat (Copy d a b n) = flatOf 7 d a b 0 n
+flat (Fill d a v n) = flatOf 8 d a 0 v n
+
+-- no record is all 0
+abbrev pub flatFound : Option Record → FlatRecord
+flatFound none = flatOf 0 0 0 0 0 0
+flatFound (some r) = flat r
+
+abbrev pub placed : Given → Place
+placed g = record { number = g .number; item = flatFound (g .found); next = g .next }
+
+-- the record of an operation from 1 to 8, whatever stands in the fields that it lacks
+abbrev pub recordAs : ℕ → FlatRecord → Record
+recordAs op f =
+    cond (eqb op 1) (Get (f .d) (f .word))
+    (cond (eqb op 2) (Give (f .a))
+    (cond (eqb op 3) (Step (f .d) (f .a) (f .word))
+    (cond (eqb op 4) (Read (f .d) (f .a) (f .byte))
+    (cond (eqb op 5) (Write (f .a) (f .byte) (f .word))
+    (cond (eqb op 6) (Left (f .d) (f .a))
+    (cond (eqb op 7) (Copy (f .d) (f .a) (f .b) (f .word)) (Fill (f .d) (f .a) (f .byte) (f .word))))))))
+
+abbrev pub recordOf : FlatRecord → Record
+recordOf f = recordAs (f .operation) f
+
+-- a writer's answer, its value the count of the bytes stored, and the slice that it leaves
+abbrev pub storedBy : Answer → List ℕ → Stored
+storedBy r out = record { number = r .number; count = r .value; slice = out }
+
+-- an operation that no record has is refused before all else
+abbrev pub unknown : List ℕ → Stored
+unknown out = record { number = 5; count = 0; slice = out }
+
+unfoldable pub writeFlat : FlatRecord → List ℕ → Stored
+writeFlat f out = cond (leb 1 (f .operation) && leb (f .operation) 8) (writeRecord (recordOf f) out) (unknown out)

@@ -1,0 +1,282 @@
+// The C interface: every public call under one prefix, with structs by value and slices as pointer and length. What C sees of it
+// stands in include/tulivombe.h.
+use heap::Answer;
+use takes::Reading;
+use takes::Record;
+use takes::Written;
+ghost use mathlib.Core.Path.{_≡_};
+ghost use mathlib.Core.Bool.{true};
+ghost use Rattle.heap.specs.Heaps.{heapOf, outcome, heapCall, heapFresh, heapCheck};
+ghost use Rattle.heap.specs.declared.Call.the-variants.{Get, Give, Step, Read, Write, Left, Copy, Fill};
+ghost use Rattle.takes.specs.Reading.{readAt};
+ghost use Rattle.takes.specs.Writing.{writeHead};
+ghost use Rattle.cabi.specs.Flat.{flat, placed, recordOf, storedBy, writeFlat};
+ghost use Rattle.cabi.specs.Parts.{partOf};
+
+// A part of the lent arena, by its offset: an exported function returns no reference.
+#[repr(C)]
+pub struct Part {
+    pub number: u32,
+    pub offset: u32,
+    pub length: u32,
+}
+
+// A record without cases, as C has no enum with data. A field that the operation lacks is 0.
+#[repr(C)]
+pub struct FlatRecord {
+    pub operation: u8,
+    pub d: u8,
+    pub a: u8,
+    pub b: u8,
+    pub byte: u8,
+    pub word: u32,
+}
+
+// What the reader gives: the record and the next place, or a number and all else 0.
+#[repr(C)]
+pub struct Place {
+    pub number: u32,
+    pub item: FlatRecord,
+    pub next: usize,
+}
+
+#[no_mangle]
+pub extern "C" fn tulivombe_fresh(arena: &mut [u8], table: &mut [u8]) -> Answer
+    ensures { λ r. ⌜ outcome r (now (arena .exit)) (now (table .exit)) ≡ heapFresh (heapOf (now (arena .entry)) (now (table .entry))) ⌝ }
+{
+    heap::fresh(arena, table)
+}
+
+#[no_mangle]
+pub extern "C" fn tulivombe_get(arena: &mut [u8], table: &mut [u8], n: u32) -> Answer
+    ensures { λ r. ⌜ outcome r (now (arena .exit)) (now (table .exit)) ≡ heapCall (Get n) (heapOf (now (arena .entry)) (now (table .entry))) ⌝ }
+{
+    heap::get(arena, table, n)
+}
+
+#[no_mangle]
+pub extern "C" fn tulivombe_give(arena: &[u8], table: &mut [u8], p: u32) -> Answer
+    ensures { λ r. ⌜ outcome r (now (arena .entry)) (now (table .exit)) ≡ heapCall (Give p) (heapOf (now (arena .entry)) (now (table .entry))) ⌝ }
+{
+    heap::give(arena, table, p)
+}
+
+#[no_mangle]
+pub extern "C" fn tulivombe_step(arena: &[u8], table: &[u8], p: u32, i: u32) -> Answer
+    ensures { λ r. ⌜ outcome r (now (arena .entry)) (now (table .entry)) ≡ heapCall (Step p i) (heapOf (now (arena .entry)) (now (table .entry))) ⌝ }
+{
+    heap::step(arena, table, p, i)
+}
+
+#[no_mangle]
+pub extern "C" fn tulivombe_read(arena: &[u8], table: &[u8], p: u32, w: u8) -> Answer
+    ensures { λ r. ⌜ outcome r (now (arena .entry)) (now (table .entry)) ≡ heapCall (Read p w) (heapOf (now (arena .entry)) (now (table .entry))) ⌝ }
+{
+    heap::read(arena, table, p, w)
+}
+
+#[no_mangle]
+pub extern "C" fn tulivombe_write(arena: &mut [u8], table: &[u8], p: u32, w: u8, v: u32) -> Answer
+    ensures { λ r. ⌜ outcome r (now (arena .exit)) (now (table .entry)) ≡ heapCall (Write p w v) (heapOf (now (arena .entry)) (now (table .entry))) ⌝ }
+{
+    heap::write(arena, table, p, w, v)
+}
+
+#[no_mangle]
+pub extern "C" fn tulivombe_left(arena: &[u8], table: &[u8], p: u32) -> Answer
+    ensures { λ r. ⌜ outcome r (now (arena .entry)) (now (table .entry)) ≡ heapCall (Left p) (heapOf (now (arena .entry)) (now (table .entry))) ⌝ }
+{
+    heap::left(arena, table, p)
+}
+
+#[no_mangle]
+pub extern "C" fn tulivombe_copy(arena: &mut [u8], table: &[u8], p: u32, q: u32, n: u32) -> Answer
+    ensures { λ r. ⌜ outcome r (now (arena .exit)) (now (table .entry)) ≡ heapCall (Copy p q n) (heapOf (now (arena .entry)) (now (table .entry))) ⌝ }
+{
+    heap::copy(arena, table, p, q, n)
+}
+
+#[no_mangle]
+pub extern "C" fn tulivombe_fill(arena: &mut [u8], table: &[u8], p: u32, v: u8, n: u32) -> Answer
+    ensures { λ r. ⌜ outcome r (now (arena .exit)) (now (table .entry)) ≡ heapCall (Fill p v n) (heapOf (now (arena .entry)) (now (table .entry))) ⌝ }
+{
+    heap::fill(arena, table, p, v, n)
+}
+
+#[no_mangle]
+pub extern "C" fn tulivombe_check(arena: &[u8], table: &[u8], p: u32, i: u32) -> Answer
+    ensures { λ r. ⌜ r ≡ heapCheck p i (heapOf (now (arena .entry)) (now (table .entry))) ⌝ }
+{
+    heap::check(arena, table, p, i)
+}
+
+// Where the part that show hands back lies in the arena, and its number, by what left answers: one scan of the table is enough.
+#[no_mangle]
+pub extern "C" fn tulivombe_show(arena: &[u8], table: &[u8], p: u32) -> Part
+    ensures { λ r. ⌜ r ≡ partOf p (heapOf (now (arena .entry)) (now (table .entry))) ⌝ }
+{
+    let left = heap::left(arena, table, p);
+    let number = left.number;
+    if number != 0 {
+        return Part {
+            number,
+            offset: 0,
+            length: 0,
+        };
+    }
+    Part {
+        number: 0,
+        offset: p - 65536,
+        length: left.value,
+    }
+}
+
+fn flattened(r: Record) -> FlatRecord
+    ensures { λ f. ⌜ f ≡ flat r ⌝ }
+{
+    match r {
+        Record::Get(d, n) => FlatRecord {
+            operation: 1,
+            d,
+            a: 0,
+            b: 0,
+            byte: 0,
+            word: n,
+        },
+        Record::Give(a) => FlatRecord {
+            operation: 2,
+            d: 0,
+            a,
+            b: 0,
+            byte: 0,
+            word: 0,
+        },
+        Record::Step(d, a, i) => FlatRecord {
+            operation: 3,
+            d,
+            a,
+            b: 0,
+            byte: 0,
+            word: i,
+        },
+        Record::Read(d, a, w) => FlatRecord {
+            operation: 4,
+            d,
+            a,
+            b: 0,
+            byte: w,
+            word: 0,
+        },
+        Record::Write(a, w, v) => FlatRecord {
+            operation: 5,
+            d: 0,
+            a,
+            b: 0,
+            byte: w,
+            word: v,
+        },
+        Record::Left(d, a) => FlatRecord {
+            operation: 6,
+            d,
+            a,
+            b: 0,
+            byte: 0,
+            word: 0,
+        },
+        Record::Copy(d, a, b, n) => FlatRecord {
+            operation: 7,
+            d,
+            a,
+            b,
+            byte: 0,
+            word: n,
+        },
+        Record::Fill(d, a, v, n) => FlatRecord {
+            operation: 8,
+            d,
+            a,
+            b: 0,
+            byte: v,
+            word: n,
+        },
+    }
+}
+
+#[no_mangle]
+pub extern "C" fn tulivombe_read_record(file: &[u8], at: usize) -> Place
+    ensures { λ r. ⌜ r ≡ placed (readAt (now (file .entry)) at) ⌝ }
+{
+    let reading = takes::read(file, at);
+    match reading {
+        Reading::Found(r, next) => Place {
+            number: 0,
+            item: flattened(r),
+            next,
+        },
+        Reading::Refused(number) => Place {
+            number,
+            item: FlatRecord {
+                operation: 0,
+                d: 0,
+                a: 0,
+                b: 0,
+                byte: 0,
+                word: 0,
+            },
+            next: 0,
+        },
+    }
+}
+
+#[no_mangle]
+pub extern "C" fn tulivombe_write_head(out: &mut [u8], m: u32) -> Answer
+    ensures { λ r. ⌜ storedBy r (now (out .exit)) ≡ writeHead m (now (out .entry)) ⌝ }
+{
+    let w = takes::write_head(out, m);
+    Answer {
+        number: w.number,
+        value: w.count,
+    }
+}
+
+// The record of an operation from 1 to 8.
+fn structured(f: FlatRecord) -> Record
+    ensures { λ r. ⌜ r ≡ recordOf f ⌝ }
+{
+    let operation = f.operation;
+    match operation {
+        1 => Record::Get(f.d, f.word),
+        2 => Record::Give(f.a),
+        3 => Record::Step(f.d, f.a, f.word),
+        4 => Record::Read(f.d, f.a, f.byte),
+        5 => Record::Write(f.a, f.byte, f.word),
+        6 => Record::Left(f.d, f.a),
+        7 => Record::Copy(f.d, f.a, f.b, f.word),
+        _ => Record::Fill(f.d, f.a, f.byte, f.word),
+    }
+}
+
+// C can name an operation that no record has: that is number 5.
+#[no_mangle]
+pub extern "C" fn tulivombe_write_record(out: &mut [u8], item: FlatRecord) -> Answer
+    ensures { λ r. ⌜ storedBy r (now (out .exit)) ≡ writeFlat item (now (out .entry)) ⌝ }
+{
+    let operation = item.operation;
+    if operation < 1 {
+        return Answer {
+            number: 5,
+            value: 0,
+        };
+    }
+    if 8 < operation {
+        return Answer {
+            number: 5,
+            value: 0,
+        };
+    }
+    let w = takes::write_record(out, structured(item));
+    Answer {
+        number: w.number,
+        value: w.count,
+    }
+}

@@ -1,0 +1,29 @@
+-- Answers as bytes, stored one after the other.
+use Prim.Native.Nat.{ℕ, suc, _+_, _≤_}
+use mathlib.Core.Path.{_≡_, sym, _∙_, ap}
+use mathlib.Core.List.{List, [], _∷_, _++_}
+use native.Mathlib.Nat.{add-zero}
+use native.Mathlib.Omega.{arith}
+use lib.ListN.{length, set, length-set}
+use Rattle.common.specs.Bytes.{over}
+use Rattle.common.proofs.Bytes.{over-none, over-first, length-bytesOf}
+use Rattle.heap.specs.Answers.{answerBytes, answersBytes}
+use Rattle.heap.specs.declared.Answer.{Answer}
+
+-- two parts, one after the other, are written over as one
+over-append : (l : List ℕ) (at : ℕ) (xs ys : List ℕ) → at + length xs ≤ length l → over (over l at xs) (at + length xs) ys ≡ over l at (xs ++ ys)
+over-append l at [] ys h = rw (over-none, add-zero)
+over-append l at (x ∷ xs) ys h =
+    let e : at + suc (length xs) ≡ suc at + length xs = omega arith in
+    let n : length (set l at x) ≡ length l = length-set l at x in
+    rw (over-first l at x xs (omega arith), over-first l at x (xs ++ ys) (omega arith), e) (over-append (set l at x) (suc at) xs ys (omega arith))
+
+pub answers-next : (l : List ℕ) (at : ℕ) (x : Answer) (xs : List Answer) → at + 5 ≤ length l → over (over l at (answerBytes x)) (at + 5) (answersBytes xs) ≡ over l at (answersBytes (x ∷ xs))
+unfolding answersBytes
+answers-next l at x xs h =
+    let n : length (answerBytes x) ≡ 5 = ap suc (length-bytesOf 4 (x .value)) in
+    ap (λ (k : ℕ). over (over l at (answerBytes x)) (at + k) (answersBytes xs)) (sym n) ∙ over-append l at (answerBytes x) (answersBytes xs) (omega arith)
+
+pub answers-none : (l : List ℕ) (at : ℕ) → over l at (answersBytes []) ≡ l
+unfolding answersBytes
+answers-none = over-none

@@ -1,0 +1,51 @@
+-- Calls as bytes: one call read, and the calls from one place on.
+use Prim.Native.Nat.{ℕ, suc, _+_, _-_, _*_, _≤_, _<_}
+use mathlib.Core.Path.{_≡_}
+use mathlib.Core.Bool.{true, false, not, _&&_, _||_}
+use mathlib.Core.List.{List, _∷_}
+use native.Mathlib.Omega.{arith}
+use lib.Dec.{leb}
+use lib.ListN.{getD}
+use borrow.Author.Tests.{ne-eqb, le-leb, lt-leb}
+use Rattle.common.specs.Bytes.{bigEndian}
+use Rattle.heap.specs.declared.Call.the-variants.{Fill}
+use Rattle.history.specs.Replaying.{callLength, callOf, callAt, callsFrom, unknownFrom}
+
+module _ (s : List ℕ) (at a b c : ℕ) (x : a ≡ bigEndian s (at + 2) 4) (y : b ≡ bigEndian s (at + 6) 4) (z : c ≡ bigEndian s (at + 10) 4) where
+  pub call-is : (k : ℕ) → getD s at 0 ≡ k → callOf k (getD s (at + 1) 0) a b c ≡ callAt s at
+  unfolding callAt
+  call-is k e = rw (x, y, z, e)
+
+pub fill-is : (k x a b c : ℕ) → (k ≡ 1 → ⊥) → (k ≡ 2 → ⊥) → (k ≡ 3 → ⊥) → (k ≡ 4 → ⊥) → (k ≡ 5 → ⊥) → (k ≡ 6 → ⊥) → (k ≡ 7 → ⊥) → Fill a x c ≡ callOf k x a b c
+fill-is k x a b c n1 n2 n3 n4 n5 n6 n7 = rw (ne-eqb k 1 n1, ne-eqb k 2 n2, ne-eqb k 3 n3, ne-eqb k 4 n4, ne-eqb k 5 n5, ne-eqb k 6 n6, ne-eqb k 7 n7)
+
+module _ (s : List ℕ) (n i : ℕ) (l : i < n) where
+  one-more : n - i ≡ suc (n - (i + 1))
+  one-more = omega arith
+
+  next-place : i * callLength + callLength ≡ (i + 1) * callLength
+  next-place = omega arith
+
+  pub calls-here : callsFrom s (i * callLength) (n - i) ≡ callAt s (i * callLength) ∷ callsFrom s ((i + 1) * callLength) (n - (i + 1))
+  unfolding callsFrom
+  calls-here = rw (one-more, ← next-place)
+
+  abbrev op : ℕ
+  op = getD s (i * callLength) 0
+
+  unknown-here : unknownFrom s (i * callLength) (n - i) ≡ not (leb 1 op && leb op 8) || unknownFrom s ((i + 1) * callLength) (n - (i + 1))
+  unfolding unknownFrom
+  unknown-here = rw (one-more, ← next-place)
+
+  pub unknown-below : op < 1 → unknownFrom s (i * callLength) (n - i) ≡ true
+  unknown-below h = rw (unknown-here, lt-leb 1 op h)
+
+  pub unknown-above : 1 ≤ op → 8 < op → unknownFrom s (i * callLength) (n - i) ≡ true
+  unknown-above p h = rw (unknown-here, le-leb 1 op p, lt-leb op 8 h)
+
+  pub known-here : 1 ≤ op → op ≤ 8 → unknownFrom s (i * callLength) (n - i) ≡ unknownFrom s ((i + 1) * callLength) (n - (i + 1))
+  known-here p h = rw (unknown-here, le-leb 1 op p, le-leb op 8 h)
+
+pub none-unknown : (s : List ℕ) (n i : ℕ) → n ≤ i → unknownFrom s (i * callLength) (n - i) ≡ false
+unfolding unknownFrom
+none-unknown s n i l = let z : n - i ≡ 0 = omega arith in rw z

@@ -1,0 +1,63 @@
+-- `any_unknown` meets its contract. The loop's invariant: what is asked of all calls is asked of those that are left.
+use Prim.Native.Nat.{_-_, _*_, _/_, _≤_}
+use mathlib.Core.Bool.{true}
+use mathlib.Core.Logic.{inl, inr}
+use lib.ListN.{length}
+use mathlib.Core.Path.{_≡_, sym, _∙_}
+use native.Mathlib.Omega.{arith}
+use borrow.Author.Tests.{ltb-true, ltb-false}
+use native.Mathlib.Nat.{sub-zero}
+use Rattle.history.specs.Replaying.{callLength, unknownFrom}
+use Rattle.history.proofs.Encoding.{unknown-below, unknown-above, known-here, none-unknown}
+use Rattle.history.proofs.any_unknown.Statement.{statement}
+use Rattle.history.proofs.any_unknown.Tie as tie
+
+abbrev Inv-loop : tie.InvT-loop
+Inv-loop calls n i₀ i = (i ≤ n) × (unknownFrom calls 0 n ≡ unknownFrom calls (i * callLength) (n - i))
+
+abbrev μ-loop : tie.MeasureT-loop
+μ-loop calls n i₀ i = n - i
+
+loop-holds : tie.Need-loop-holds Inv-loop μ-loop
+loop-holds c = (omega arith, simp sub-zero)
+
+mul-op : tie.Need-mul-op Inv-loop μ-loop
+mul-op c = omega arith
+
+shared-slice-read-op : tie.Need-shared-slice-read-op Inv-loop μ-loop
+shared-slice-read-op c = omega arith
+
+returns : tie.Need-returns Inv-loop μ-loop
+returns c =
+    let more = c .before .before .loop-test .taken in
+    sym (c .before .before .before .loop .inv .1 ∙ elim (c .if1 .came) [
+      | inl u ↦ unknown-below _ _ _ more (u .taken)
+      | inr u ↦ unknown-above _ _ _ more (u .0 .left) (ltb-true 8 _ (u .1 .taken))
+    ])
+
+add-i : tie.Need-add-i Inv-loop μ-loop
+add-i c = omega arith
+
+loop-less : tie.Need-loop-less Inv-loop μ-loop
+loop-less c = omega arith
+
+loop-again : tie.Need-loop-again Inv-loop μ-loop
+loop-again c = (omega arith, c .before .before .before .before .loop .inv .1 ∙ known-here _ _ _ (c .before .before .before .loop-test .taken) (c .before .if1 .left) (ltb-false 8 _ (c .if2 .left)))
+
+returns-2 : tie.Need-returns-2 Inv-loop μ-loop
+returns-2 c = sym (c .before .loop .inv .1 ∙ none-unknown _ _ _ (c .loop-test .left))
+
+pub any-unknown-spec : {M : Type 1} → statement M
+any-unknown-spec =
+    tie.close
+    (tie.spec
+    Inv-loop
+    μ-loop
+    loop-holds
+    mul-op
+    shared-slice-read-op
+    returns
+    add-i
+    loop-less
+    loop-again
+    returns-2)

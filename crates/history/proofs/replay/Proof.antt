@@ -1,0 +1,124 @@
+-- `replay` meets its contract. The loop keeps `Going`: a ledger agrees with the heap, and what it gives for the calls to come is what the list gives.
+use Prim.Native.Nat.{_-_}
+use mathlib.Core.Path.{_≡_, sym, _∙_}
+use native.Mathlib.Omega.{arith}
+use borrow.Author.Needs.{needs}
+use Rattle.common.specs.Refusals.{first}
+use Rattle.heap.specs.Heaps.{heapOf}
+use Rattle.history.specs.Replaying.{replayRules}
+use Rattle.history.proofs.Replaying.{Playable, playable, refused-is, Going, going-start, going-sound, going-step, going-end, played-is}
+use Rattle.history.proofs.replay.Statement.{statement}
+use Rattle.history.proofs.replay.Tie as tie
+
+abbrev Inv-loop : tie.InvT-loop
+Inv-loop arena₀ table₀ calls out₀ number m n i₀ arena table out i = Going m calls out₀ arena table out i
+
+abbrev μ-loop : tie.MeasureT-loop
+μ-loop arena₀ table₀ calls out₀ number m n i₀ arena table out i = n - i
+
+refusal-requires : tie.Need-refusal-requires Inv-loop μ-loop
+refusal-requires c κs = search needs
+
+same-length : tie.Need-same-length Inv-loop μ-loop
+same-length c = search needs
+
+same-length-2 : tie.Need-same-length-2 Inv-loop μ-loop
+same-length-2 c = search needs
+
+same-length-3 : tie.Need-same-length-3 Inv-loop μ-loop
+same-length-3 c = search needs
+
+returns : tie.Need-returns Inv-loop μ-loop
+returns c = let s = c .before .before .before .before .before .before .before .before .before .args in refused-is (s .calls .now) (s .arena .now) (s .table .now) (s .out .now) _ (c .before .refusal .ensures) (c .if1 .taken)
+
+order-of-requires : tie.Need-order-of-requires Inv-loop μ-loop
+order-of-requires c κs = search needs
+
+fresh-requires : tie.Need-fresh-requires Inv-loop μ-loop
+fresh-requires c κs = search needs
+
+-- nothing refuses the replay
+module _ (c : tie.After-order-of Inv-loop μ-loop) where
+  abbrev s : tie.Start Inv-loop μ-loop
+  s = c .before .before .before .before .before .before .before .before .before .before
+
+  accepted : first (replayRules (s .args .calls .now) (heapOf (s .args .arena .now) (s .args .table .now)) (s .args .out .now)) ≡ 0
+  accepted = sym (c .before .before .refusal .ensures) ∙ c .before .if1 .left
+
+  fine : Playable (c .order-of .result) (s .args .calls .now) (s .args .arena .now) (s .args .table .now) (s .args .out .now)
+  fine = playable _ (s .args .calls .now) (s .args .arena .now) (s .args .table .now) (s .args .out .now) (c .order-of .ensures) accepted
+
+loop-holds : tie.Need-loop-holds Inv-loop μ-loop
+loop-holds c =
+    let o = c .before .before .before .before .before .before .before in
+    let f = c .before .before .before .before .fresh in
+    going-start _ _ (s o .args .arena .now) (s o .args .table .now) _ (f .last .0) (f .last .1 .0) (f .result) (fine o) (f .ensures)
+
+mul-call-at : tie.Need-mul-call-at Inv-loop μ-loop
+mul-call-at c = omega arith
+
+call-at-requires : tie.Need-call-at-requires Inv-loop μ-loop
+call-at-requires c κs = omega arith
+
+call-requires : tie.Need-call-requires Inv-loop μ-loop
+call-requires c κs = going-sound (c .before .before .before .before .loop .inv)
+
+mul-store : tie.Need-mul-store Inv-loop μ-loop
+mul-store c = omega (arith, c .before .before .before .before .before .before .before .before .before .before .before .before .before .before .before .before .before .before .before .before .before .before .before .before .before .before .before .before .good .1 .1 .0 .0)
+
+store-requires : tie.Need-store-requires Inv-loop μ-loop
+store-requires c κs = omega (arith, c .before .before .before .before .before .before .before .before .before .before .loop .inv .room, c .before .before .before .before .before .before .before .before .before .loop-test .taken)
+
+add-i : tie.Need-add-i Inv-loop μ-loop
+add-i c = omega (arith, c .before .before .before .before .before .before .before .before .before .before .before .before .before .before .before .before .before .before .before .before .before .before .before .before .before .before .before .before .before .before .before .good .1 .1 .0 .0)
+
+loop-less : tie.Need-loop-less Inv-loop μ-loop
+loop-less c = omega arith
+
+loop-again : tie.Need-loop-again Inv-loop μ-loop
+loop-again c =
+    let k = c .before .before .before .before .before .before .before .before in
+    going-step (c .before .before .before .before .before .before .before .before .before .before .before .before .before .loop .inv) (c .before .before .before .before .before .before .before .before .before .before .before .before .loop-test .taken) (k .before .call-at .result) (k .before .call-at .ensures) (k .call .result)
+    (k .call .last .0) (k .call .last .1 .0) (c .before .before .store .last .0) (k .call .ensures) (c .before .before .store .ensures) (c .before .before .store .kept .0)
+
+same-length-4 : tie.Need-same-length-4 Inv-loop μ-loop
+same-length-4 c = going-sound (c .before .loop .inv) .size ∙ sym (fine (c .before .before .before .before .before .before .before .before .before) .sized .size)
+
+same-length-5 : tie.Need-same-length-5 Inv-loop μ-loop
+same-length-5 c = going-sound (c .before .loop .inv) .slots ∙ sym (fine (c .before .before .before .before .before .before .before .before .before) .sized .slots)
+
+same-length-6 : tie.Need-same-length-6 Inv-loop μ-loop
+same-length-6 c = c .before .loop .inv .same
+
+returns-2 : tie.Need-returns-2 Inv-loop μ-loop
+returns-2 c =
+    let o = c .before .before .before .before .before .before .before .before .before in
+    going-end (c .before .loop .inv) (c .loop-test .left)
+    ∙ played-is _ (s o .args .calls .now) (s o .args .arena .now) (s o .args .table .now) (s o .args .out .now) (o .order-of .ensures) (accepted o)
+
+pub replay-spec : {M : Type 1} → statement M
+replay-spec =
+    tie.close
+    (tie.spec
+    Inv-loop
+    μ-loop
+    refusal-requires
+    same-length
+    same-length-2
+    same-length-3
+    returns
+    order-of-requires
+    fresh-requires
+    loop-holds
+    mul-call-at
+    call-at-requires
+    call-requires
+    mul-store
+    store-requires
+    add-i
+    loop-less
+    loop-again
+    same-length-4
+    same-length-5
+    same-length-6
+    returns-2)

@@ -1,0 +1,4 @@
+pub mod Files
+pub mod Records
+pub mod Running
+pub mod Judging

@@ -1,0 +1,120 @@
+-- Where a run stands between two records, from the fresh heap to the end of the file.
+use Prim.Native.Nat.{ℕ, zero, suc, _+_, _-_, _*_, _^_, _≤_, _<_}
+use mathlib.Core.Path.{_≡_, refl, sym, _∙_, ap, ap₂, subst}
+use mathlib.Core.Bool.{Bool, true, false}
+use mathlib.Core.List.{List, [], _∷_}
+use native.Mathlib.Omega.{arith}
+use lib.Dec.{leb, eqb}
+use lib.ListN.{length, replicate}
+use borrow.Author.Tests.{le-leb, eq-eqb}
+use Rattle.common.specs.Bytes.{over}
+use Rattle.blocks.specs.Sets.{tableOf}
+use Rattle.blocks.specs.Orders.{orderOf}
+use Rattle.blocks.proofs.Orders.{order-power}
+use Rattle.blocks.proofs.SetTables.{table-length}
+use Rattle.takes.specs.Reading.{accepted, refused, readAt}
+use Rattle.takes.specs.Files.{Walk, ended, before, walkFrom, headLength, recordsOf}
+use Rattle.takes.specs.declared.Record.{Record}
+use Rattle.takes.proofs.Walks.{Next, found-next, from-end, from-refused, refused-number}
+use Rattle.heap.specs.Views.{View, slotOrder}
+use Rattle.heap.specs.Effects.{Outcome}
+use Rattle.heap.specs.Heaps.{Heap, heapOf, heapCall, heapFresh, freshHeap, outcome}
+use Rattle.heap.specs.Judging.{Sound}
+use Rattle.heap.specs.declared.Answer.{Answer}
+use Rattle.history.specs.Ledgers.{Ledger, ledgerStep, emptyLedger}
+use Rattle.history.proofs.Agreement.{Agree}
+use Rattle.history.proofs.Simulation.{view-same}
+use Rattle.history.proofs.Runs.{fresh-agree, call-same}
+use Rattle.runner.specs.Registers.{registersAtFirst, callOf}
+use Rattle.runner.specs.Carrying.{State, stateOf, atFirst, oneRecord, allRecords, Runnable}
+use Rattle.runner.proofs.Files.{accepted-file}
+use Rattle.runner.proofs.Records.{all-next, all-none}
+
+-- a heap that some ledger agrees with: what a list of calls from a fresh heap leaves
+pub record Kept (m : ℕ) (h : Heap) : Type 0 where
+  pub ledger : Ledger
+  pub agree : Agree m h ledger
+
+-- its table is undamaged, so a run never scans it
+pub kept-sound : (m : ℕ) → 5 ≤ m → m ≤ 16 → (h : Heap) → Kept m h → Sound m (h .arena) (h .table)
+kept-sound m low high h k =
+    record {
+      low = low;
+      high = high;
+      size = k .agree .size;
+      slots = ap length (k .agree .table) ∙ table-length slotOrder m (k .ledger .pairs);
+      whole = ap (λ (w : View). w .damaged) (view-same m low high h (k .ledger) (k .agree));
+    }
+
+-- fresh, where the lengths fit
+fresh-made : (m : ℕ) (a t : List ℕ) → 5 ≤ m → m ≤ 16 → length a ≡ 2 ^ m → length t ≡ 2 ^ (m - slotOrder) → heapFresh (heapOf a t) .state ≡ freshHeap m
+unfolding heapFresh
+fresh-made m a t low high p q =
+    rw (p, q, order-power m low high, le-leb 5 m low, le-leb m 16 high, eq-eqb (2 ^ m) (2 ^ m) refl, eq-eqb (2 ^ (m - slotOrder)) (2 ^ (m - slotOrder)) refl)
+
+-- what is still to come from here gives what the whole run gives
+pub record Going (m : ℕ) (file out₀ a t rs out : List ℕ) (at place : ℕ) : Type 0 where
+  pub low : 5 ≤ m
+  pub high : m ≤ 16
+  pub kept : Kept m (heapOf a t)
+  pub good : walkFrom file at .number ≡ 0
+  pub room : place + 5 * length (walkFrom file at .records) ≤ length out
+  pub same : length out ≡ length out₀
+  pub rest : allRecords (walkFrom file at .records) place (stateOf a t rs out) ≡ allRecords (recordsOf file) 0 (atFirst m out₀)
+
+pub going-start : (m : ℕ) (file a t out a′ t′ rs : List ℕ) (x : Answer) → Runnable m file a t out
+    → outcome x a′ t′ ≡ heapFresh (heapOf a t) → rs ≡ registersAtFirst → Going m file out a′ t′ rs out 2 0
+unfolding recordsOf
+going-start m file a t out a′ t′ rs x r e z =
+    let f = accepted-file file (r .judged) in
+    let low : 5 ≤ m = omega (arith, f .head .low, r .same) in
+    let high : m ≤ 16 = omega (arith, f .head .high, r .same) in
+    let h : heapOf a′ t′ ≡ freshHeap m = ap (λ (o : Outcome Heap). o .state) e ∙ fresh-made m a t low high (r .size) (r .slots) in
+    record {
+      low = low;
+      high = high;
+      kept = subst (Kept m) (sym h) (record { ledger = emptyLedger m; agree = fresh-agree m });
+      good = f .records;
+      room = omega (arith, r .room);
+      same = refl;
+      rest = ap₂ (λ (h : Heap) (l : List ℕ). allRecords (walkFrom file headLength .records) 0 (record { heap = h; registers = l; answers = out })) h z;
+    }
+
+module _ {m : ℕ} {file out₀ a t rs out : List ℕ} {at place : ℕ} (g : Going m file out₀ a t rs out at place) where
+  pub going-sound : Sound m a t
+  going-sound = kept-sound m (g .low) (g .high) (heapOf a t) (g .kept)
+
+  pub going-end : length file ≤ at → stateOf a t rs out ≡ allRecords (recordsOf file) 0 (atFirst m out₀)
+  going-end h =
+      let e : walkFrom file at ≡ ended 0 = from-end file at h in
+      sym (ap (λ (w : Walk). allRecords (w .records) place (stateOf a t rs out)) e ∙ all-none place (stateOf a t rs out)) ∙ g .rest
+
+  pub going-refused {ℓ} : {X : Type ℓ} → at < length file → (n : ℕ) → refused n ≡ readAt file at → X
+  going-refused h n e = absurd (refused-number file at n e (sym (ap (λ (w : Walk). w .number) (from-refused file at n h (sym e))) ∙ g .good))
+
+  module _ (r : Record) (next : ℕ) (e : accepted r next ≡ readAt file at) where
+    to-come : walkFrom file at ≡ before r (walkFrom file next)
+    to-come = found-next file at r next e .to-come
+
+    pub going-further : at < next
+    going-further = omega (arith, found-next file at r next e .beyond)
+
+    pub going-room : place + 5 * suc (length (walkFrom file next .records)) ≤ length out
+    going-room = rw to-come at (g .room)
+
+    pub going-step : (a′ t′ rs′ out′ : List ℕ) → stateOf a′ t′ rs′ out′ ≡ oneRecord r place (stateOf a t rs out) → length out′ ≡ length out
+        → Going m file out₀ a′ t′ rs′ out′ next (place + 5)
+    going-step a′ t′ rs′ out′ q l =
+        let s = call-same m (g .low) (g .high) (heapOf a t) (g .kept .ledger) (g .kept .agree) (callOf rs r) in
+        record {
+          low = g .low;
+          high = g .high;
+          kept = subst (Kept m) (sym (ap (λ (s : State). s .heap) q)) (record { ledger = ledgerStep m (callOf rs r) (g .kept .ledger) .state; agree = s .agree });
+          good = sym (ap (λ (w : Walk). w .number) to-come) ∙ g .good;
+          room = omega (arith, going-room);
+          same = l ∙ g .same;
+          rest =
+              ap (allRecords (walkFrom file next .records) (place + 5)) q
+              ∙ (sym (all-next r (walkFrom file next .records) place (stateOf a t rs out) (omega (arith, going-room)))
+              ∙ (sym (ap (λ (w : Walk). allRecords (w .records) place (stateOf a t rs out)) to-come) ∙ g .rest));
+        }

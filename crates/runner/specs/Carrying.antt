@@ -1,0 +1,52 @@
+-- What the parts of a run's code say to each other: the state of a run, one record carried out on it, and many.
+use Prim.Native.Nat.{ℕ, _+_, _-_, _*_, _^_, _≤_}
+use mathlib.Core.Path.{_≡_}
+use mathlib.Core.List.{List}
+use lib.ListN.{length}
+use Rattle.common.specs.Bytes.{over}
+use Rattle.takes.specs.Files.{sizeByte, fileNumber, recordsOf}
+use Rattle.takes.specs.declared.Record.{Record}
+use Rattle.heap.specs.Views.{slotOrder}
+use Rattle.heap.specs.Effects.{Outcome}
+use Rattle.heap.specs.Heaps.{Heap, heapOf, heapCall, freshHeap}
+use Rattle.heap.specs.Answers.{answerBytes, answersBytes}
+use Rattle.runner.specs.Registers.{registersAtFirst, callOf, registersAfter}
+use Rattle.runner.specs.Runs.{Carried, carryOut, RunOutcome}
+use Rattle.runner.specs.declared.Ran.{Ran}
+
+-- a heap, the registers and the answer slice
+pub record State : Type 0 where
+  pub heap : Heap
+  pub registers : List ℕ
+  pub answers : List ℕ
+
+abbrev pub stateOf : List ℕ → List ℕ → List ℕ → List ℕ → State
+stateOf a t rs out = record { heap = heapOf a t; registers = rs; answers = out }
+
+-- before the first record: the heap fresh, the registers 0
+abbrev pub atFirst : ℕ → List ℕ → State
+atFirst m out = record { heap = freshHeap m; registers = registersAtFirst; answers = out }
+
+-- a record, its answer going to `place`
+abbrev pub oneRecord : Record → ℕ → State → State
+oneRecord r place s =
+    let o = heapCall (callOf (s .registers) r) (s .heap) in
+    record { heap = o .state; registers = registersAfter r (o .answer) (s .registers); answers = over (s .answers) place (answerBytes (o .answer)) }
+
+-- records, their answers going to `place` and the bytes after
+abbrev pub allRecords : List Record → ℕ → State → State
+allRecords rs place s =
+    let c = carryOut rs (s .heap) (s .registers) in
+    record { heap = c .heap; registers = c .registers; answers = over (s .answers) place (answersBytes (c .answers)) }
+
+-- nothing refuses the run
+pub record Runnable (m : ℕ) (file a t out : List ℕ) : Type 0 where
+  pub judged : fileNumber file ≡ 0
+  pub same : sizeByte file ≡ m
+  pub size : length a ≡ 2 ^ m
+  pub slots : length t ≡ 2 ^ (m - slotOrder)
+  pub room : 5 * length (recordsOf file) ≤ length out
+
+-- what a run returned and the buffers that it left, as its outcome
+abbrev pub ranTo : Ran → List ℕ → List ℕ → List ℕ → RunOutcome
+ranTo r a t out = record { number = r .number; registers = r .registers .values; count = r .count; heap = heapOf a t; answers = out }

@@ -1,0 +1,6 @@
+pub mod Registers
+pub mod Runs
+pub mod Carrying
+pub mod Examples
+pub mod Vectors
+pub mod Refused

@@ -1,0 +1,62 @@
+-- Document 01, "A take": a run of a file on a lent arena, table and answer slice.
+use Prim.Native.Nat.{ℕ, zero, suc, _+_, _-_, _*_, _^_}
+use mathlib.Core.Bool.{Bool, not, cond, _||_}
+use mathlib.Core.List.{List, [], _∷_}
+use lib.Dec.{eqb, ltb}
+use lib.ListN.{length}
+use Rattle.common.specs.Refusals.{Refusal, _when_, first}
+use Rattle.common.specs.Bytes.{over}
+use Rattle.takes.specs.Files.{sizeByte, fileNumber, recordsOf}
+use Rattle.takes.specs.declared.Record.{Record}
+use Rattle.heap.specs.Views.{slotOrder}
+use Rattle.heap.specs.Effects.{Outcome}
+use Rattle.heap.specs.Heaps.{Heap, heapOf, heapCall, freshHeap}
+use Rattle.heap.specs.Answers.{answersBytes}
+use Rattle.heap.specs.declared.Answer.{Answer}
+use Rattle.runner.specs.Registers.{registersAtFirst, callOf, registersAfter}
+
+-- what the records leave: their answers, the heap and the registers
+pub record Carried : Type 0 where
+  pub answers : List Answer
+  pub heap : Heap
+  pub registers : List ℕ
+
+-- the records in their order, each on what the one before left; a refused record ends nothing
+unfoldable pub carryOut : List Record → Heap → List ℕ → Carried
+carryOut [] h rs = record { answers = []; heap = h; registers = rs }
+carryOut (r ∷ rest) h rs =
+    let o = heapCall (callOf rs r) h in
+    let next = carryOut rest (o .state) (registersAfter r (o .answer) rs) in
+    record { answers = o .answer ∷ next .answers; heap = next .heap; registers = next .registers }
+
+-- the file's refusals 1 to 7, then 8 and 9, all before any call
+abbrev pub runRules : List ℕ → Heap → List ℕ → List Refusal
+runRules file h out =
+    fileNumber file when not (eqb (fileNumber file) 0)
+    ∷ 8 when (not (eqb (length (h .arena)) (2 ^ sizeByte file)) || not (eqb (length (h .table)) (2 ^ (sizeByte file - slotOrder))))
+    ∷ 9 when ltb (length out) (5 * length (recordsOf file))
+    ∷ []
+
+-- What a run returns and leaves: number, registers, record count, both buffers and the answer slice.
+pub record RunOutcome : Type 0 where
+  pub number : ℕ
+  pub registers : List ℕ
+  pub count : ℕ
+  pub heap : Heap
+  pub answers : List ℕ
+
+-- refused, it returns sixteen zero registers and count 0, and changes nothing
+abbrev pub runSettled : ℕ → List ℕ → Heap → List ℕ → RunOutcome
+runSettled zero file h out =
+    let c = carryOut (recordsOf file) (freshHeap (sizeByte file)) registersAtFirst in
+    record {
+      number = 0;
+      registers = c .registers;
+      count = length (recordsOf file);
+      heap = c .heap;
+      answers = over out 0 (answersBytes (c .answers));
+    }
+runSettled (suc n) file h out = record { number = suc n; registers = registersAtFirst; count = 0; heap = h; answers = out }
+
+unfoldable pub runOf : List ℕ → Heap → List ℕ → RunOutcome
+runOf file h out = runSettled (first (runRules file h out)) file h out

@@ -1,0 +1,112 @@
+// Runs a take: its file is judged, the heap made fresh, and each record carried out with sixteen registers.
+use registers::Registers;
+use takes::Reading;
+use takes::Record;
+ghost use mathlib.Core.Path.{_≡_};
+ghost use Prim.Native.Nat.{_+_, _≤_};
+ghost use lib.ListN.{length};
+ghost use Rattle.heap.specs.Heaps.{heapOf};
+ghost use Rattle.heap.specs.Judging.{Sound};
+ghost use Rattle.takes.specs.Files.{recordsOf};
+ghost use Rattle.runner.specs.Registers.{registersAtFirst};
+ghost use Rattle.runner.specs.Runs.{runOf};
+ghost use Rattle.runner.specs.Carrying.{stateOf, atFirst, oneRecord, allRecords, Runnable, ranTo};
+
+pub mod registers;
+
+// What a run returns: the number of its refusal, 0 for none, its registers, and the count of its records.
+#[repr(C)]
+pub struct Ran {
+    pub number: u32,
+    pub registers: Registers,
+    pub count: u32,
+}
+
+// Sixteen zero registers and count 0.
+fn refused(number: u32) -> Ran
+    ensures { λ r. ⌜ r ≡ record { number = number; registers = record { values = registersAtFirst }; count = 0 } ⌝ }
+{
+    Ran {
+        number,
+        registers: registers::at_first(),
+        count: 0,
+    }
+}
+
+// One record: its call, its answer in five bytes from `place` on, its value in a register.
+fn carry_out_one(
+    arena: &mut [u8],
+    table: &mut [u8],
+    answers: &mut [u8],
+    place: usize,
+    m: u32,
+    registers: Registers,
+    item: Record,
+) -> Registers
+    requires { ⌜ Sound m (now arena) (now table) ⌝ }
+    requires { ⌜ place + 5 ≤ length (now answers) ⌝ }
+    ensures { λ r. ⌜ stateOf (now (arena .exit)) (now (table .exit)) (r .values) (now (answers .exit)) ≡ oneRecord item place (stateOf (now (arena .entry)) (now (table .entry)) (registers .values) (now (answers .entry))) ⌝ }
+{
+    let answer = heap::unchecked::call(arena, table, m, registers::call_of(registers, item));
+    heap::answers::store(answers, place, answer);
+    registers::after(registers, item, answer)
+}
+
+// Makes the heap fresh and carries out the records of a file that was judged. They are read again, one at a time.
+fn carry_out(
+    file: &[u8],
+    arena: &mut [u8],
+    table: &mut [u8],
+    answers: &mut [u8],
+    m: u32,
+) -> Registers
+    requires { ⌜ Runnable m (now file) (now arena) (now table) (now answers) ⌝ }
+    ensures { λ r. ⌜ stateOf (now (arena .exit)) (now (table .exit)) (r .values) (now (answers .exit)) ≡ allRecords (recordsOf (now (file .entry))) 0 (atFirst m (now (answers .entry))) ⌝ }
+{
+    heap::fresh(arena, table);
+    let mut registers = registers::at_first();
+    let mut at = 2usize;
+    let mut place = 0usize;
+    while at < file.len() {
+        let reading = takes::read(file, at);
+        match reading {
+            Reading::Found(item, next) => {
+                registers = carry_out_one(arena, table, answers, place, m, registers, item);
+                at = next;
+                place += 5;
+            }
+            Reading::Refused(_) => {
+                return registers;
+            }
+        }
+    }
+    registers
+}
+
+// Runs a take on a lent arena and table. The file is judged whole before anything is changed.
+pub fn run(file: &[u8], arena: &mut [u8], table: &mut [u8], answers: &mut [u8]) -> Ran
+    ensures { λ r. ⌜ ranTo r (now (arena .exit)) (now (table .exit)) (now (answers .exit)) ≡ runOf (now (file .entry)) (heapOf (now (arena .entry)) (now (table .entry))) (now (answers .entry)) ⌝ }
+{
+    let judgement = takes::judge(file);
+    let number = judgement.number;
+    if number != 0 {
+        return refused(number);
+    }
+    let m = judgement.size;
+    if arena.len() != blocks::size_of(m) as usize {
+        return refused(8);
+    }
+    if table.len() != blocks::size_of(m - 4) as usize {
+        return refused(8);
+    }
+    let count = judgement.count;
+    if answers.len() / 5 < count {
+        return refused(9);
+    }
+    let registers = carry_out(file, arena, table, answers, m);
+    Ran {
+        number: 0,
+        registers,
+        count: count as u32,
+    }
+}
