@@ -1,12 +1,12 @@
 -- Laws of a list that is written over.
-use Prim.Native.Nat.{ℕ, zero, suc, _+_, _-_, _*_, _/_, _%_, _^_, _≤_, _<_}
-use mathlib.Core.Path.{_≡_, refl, sym, _∙_, ap, subst}
+use Prim.Native.Nat.{ℕ, zero, suc, _+_, _-_, _/_, _%_, _≤_, _<_}
+use mathlib.Core.Path.{_≡_, refl, _∙_, ap, subst}
 use mathlib.Core.List.{List, [], _∷_, _++_, append-assoc, append-nil}
 use native.Mathlib.Omega.{arith}
 use native.Mathlib.Nat.{add-zero, zero-add}
-use lib.ListN.{length, getD, set, take, drop, replicate, length-append, length-take, length-drop, length-replicate, take-append-drop, drop-of-length-le, List·getD-append}
-use lib.Seq.{getD-append-add, getD-take, getD-drop, length-take-le, take-at, drop-at, take-set-le, drop-set-lt, set-split, take-suc-set}
-use Rattle.common.specs.Bytes.{bigEndian, bytesOf, over, copied}
+use lib.ListN.{length, getD, set, take, drop, length-append, length-drop, take-append-drop, drop-of-length-le, List·getD-append}
+use lib.Seq.{getD-append-add, getD-take, getD-drop, length-take-le, drop-at, take-set-le, drop-set-lt, set-split, take-suc-set}
+use Rattle.common.specs.Bytes.{bytesOf, over}
 
 pub over-none : (l : List ℕ) (at : ℕ) → over l at [] ≡ l
 unfolding over
@@ -61,16 +61,6 @@ module _ (l : List ℕ) (at : ℕ) (xs : List ℕ) (fits : at + length xs ≤ le
       let q : at + length xs + j ≡ i = omega arith in
       subst (λ (k : ℕ). getD (over l at xs) k 0 ≡ getD l i 0) p
       (past (length xs + j) ∙ (getD-append-add xs (drop (at + length xs) l) j 0 ∙ (getD-drop (at + length xs) l j 0 ∙ ap (λ (k : ℕ). getD l k 0) q)))
-
-  -- written over once more at the same places
-  pub over-over : (ys : List ℕ) → length ys ≡ length xs → over (over l at xs) at ys ≡ over l at ys
-  unfolding over
-  over-over ys e =
-      let t : take at (over l at xs) ≡ take at l = take-at (take at l) (xs ++ drop (at + length xs) l) at front in
-      let n : length (take at l ++ xs) ≡ at + length xs = length-append (take at l) xs ∙ ap (λ (k : ℕ). k + length xs) front in
-      let d : drop (at + length xs) (over l at xs) ≡ drop (at + length xs) l =
-      ap (drop (at + length xs)) (sym (append-assoc (take at l) xs (drop (at + length xs) l))) ∙ drop-at (take at l ++ xs) (drop (at + length xs) l) (at + length xs) n in
-      rw (e, t, d)
 
 pub length-bytesOf : (w v : ℕ) → length (bytesOf w v) ≡ w
 unfolding bytesOf

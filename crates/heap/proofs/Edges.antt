@@ -1,5 +1,5 @@
 -- Document 01's edges (a) to (l), computed from the calls' definitions.
-use mathlib.Core.Path.{_≡_, refl}
+use mathlib.Core.Path.{refl}
 use Rattle.common.specs.Bytes.{bigEndian, bytesOf, over, copied}
 use Rattle.blocks.specs.Blocks.{floor}
 use Rattle.blocks.specs.Tables.{any, torn, bad, damagedBy, referentIn}

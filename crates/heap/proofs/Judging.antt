@@ -1,6 +1,6 @@
 -- Lists of refusals, and a call that has been judged up to its state.
-use Prim.Native.Nat.{ℕ, zero, suc, _+_, _-_, _*_, _/_, _^_, _≤_, _<_}
-use mathlib.Core.Path.{_≡_, refl, sym, _∙_, ap, subst}
+use Prim.Native.Nat.{ℕ, zero, suc, _-_, _*_, _/_, _^_, _≤_, _<_}
+use mathlib.Core.Path.{_≡_, refl, sym, _∙_, ap, ap₂, subst}
 use mathlib.Core.Bool.{Bool, true, false, not, cond, _&&_}
 use mathlib.Core.List.{List, [], _∷_, _++_}
 use native.Mathlib.Omega.{arith}
@@ -15,11 +15,11 @@ use Rattle.blocks.proofs.Floors.{pow-split}
 use Rattle.blocks.proofs.Orders.{order-sound}
 use Rattle.blocks.specs.Tables.{damagedBy}
 use Rattle.blocks.specs.Orders.{orderOf}
-use Rattle.heap.specs.Views.{View, slotOrder}
+use Rattle.heap.specs.Views.{View}
 use Rattle.heap.specs.Rules.{argumentRules, stateRules, rules}
 use Rattle.heap.specs.Effects.{value, stored, Outcome, settled}
-use Rattle.heap.specs.Heaps.{Heap, heapOf, heapView, viewOf, entered, heapStep, heapCall, heapFresh, bit, heapCheck, outcome}
-use Rattle.heap.specs.Judging.{heapOrder, Sound, Ready, Judged}
+use Rattle.heap.specs.Heaps.{Heap, heapOf, heapView, viewOf, entered, heapStep, heapCall, heapFresh, freshHeap, bit, heapCheck, outcome}
+use Rattle.heap.specs.Judging.{heapOrder, Ready, Judged}
 use Rattle.heap.specs.declared.Answer.{Answer}
 use Rattle.heap.specs.declared.Call.{Call}
 use Rattle.heap.specs.declared.Call.the-variants.{Get, Give, Step, Read, Write, Left, Copy, Fill}
@@ -232,7 +232,13 @@ check-refused {p = p} {k = k} {a = a} {t = t} i j n =
     let v : ℕ = bit (viewOf h .inside p i) in
     ap (λ (x : Outcome Heap). x .answer) (settled-refused k h v h n ∙ ap (λ (x : ℕ). settled x h v h) (j .refusal n))
 
--- Fresh.
+-- Fresh: on buffers whose lengths fit it leaves the fresh heap of their order.
+pub fresh-heap : (a t : List ℕ) → viewOf (heapOf a t) .wrong-sizes ≡ false → heapFresh (heapOf a t) ≡ record { answer = answer 0 0; state = freshHeap (orderOf (length a)) }
+unfolding heapFresh
+fresh-heap a t z =
+    let s = fits-sized a t (not-false _ z) in
+    rw z (ap₂ (λ (n k : ℕ). outcome (answer 0 0) (replicate n 0) (replicate k 0)) (s .size) (s .slots))
+
 module _ (a t : List ℕ) (m : ℕ) (q : m ≡ heapOrder a t) where
   pub fresh-refused : m ≡ 0 → outcome (answer 8 0) a t ≡ heapFresh (heapOf a t)
   unfolding heapFresh

@@ -1,11 +1,11 @@
 -- The outcomes of get and give: a block put where the placing rule says, and a block taken away.
-use Prim.Native.Nat.{ℕ, zero, suc, _+_, _-_, _*_, _/_, _%_, _^_, _≤_, _<_}
-use mathlib.Core.Path.{_≡_, refl, sym, _∙_, ap, ap₂, subst}
-use mathlib.Core.Bool.{Bool, true, false, not, cond, _||_}
+use Prim.Native.Nat.{ℕ, _+_, _-_, _*_, _/_, _%_, _^_, _≤_}
+use mathlib.Core.Path.{_≡_, sym, _∙_, ap, subst}
+use mathlib.Core.Bool.{false, _||_}
 use mathlib.Core.List.{List, [], _∷_}
 use native.Mathlib.Omega.{arith}
-use borrow.Author.Tests.{ltb-false, eqb-false, eq-eqb, ne-eqb}
-use lib.Dec.{leb, ltb, eqb}
+use borrow.Author.Tests.{ltb-false, eq-eqb, ne-eqb}
+use lib.Dec.{ltb, eqb}
 use lib.ListN.{length, replicate}
 use lib.Pow.{pow-mono}
 use Rattle.common.specs.Refusals.{_when_, first}
@@ -17,18 +17,17 @@ use Rattle.blocks.specs.Placing.{placeIn}
 use Rattle.blocks.specs.declared.Place.{Place}
 use Rattle.blocks.specs.declared.Place.the-variants.{At, Nothing}
 use Rattle.blocks.specs.declared.Referent.{Referent}
-use Rattle.blocks.specs.declared.Referent.the-variants.{Missing, Found}
-use Rattle.blocks.proofs.Booleans.{or-false-left, or-false-right}
+use Rattle.blocks.specs.declared.Referent.the-variants.{Found}
+use Rattle.blocks.proofs.Booleans.{or-false-right}
 use Rattle.blocks.proofs.Floors.{pow-split}
 use Rattle.blocks.proofs.Orders.{Needed, needed-order}
 use Rattle.blocks.proofs.Places.{place-sound, range-inside}
 use Rattle.blocks.proofs.Slots.{slots-of}
-use Rattle.heap.specs.Views.{View, slotOrder, referentOfPointer, placeFor, noPlace, placeAddress}
+use Rattle.heap.specs.Views.{View, referentOfPointer, placeFor, noPlace, placeAddress}
 use Rattle.heap.specs.Rules.{argumentRules, stateRules}
 use Rattle.heap.specs.Effects.{value, stored, cleared}
 use Rattle.heap.specs.Heaps.{heapOf, heapView, stamped, entered, heapStep, outcome}
-use Rattle.heap.specs.Judging.{Sound, Ready}
-use Rattle.heap.specs.declared.Call.{Call}
+use Rattle.heap.specs.Judging.{Ready}
 use Rattle.heap.specs.declared.Call.the-variants.{Get, Give}
 use Rattle.heap.proofs.Judging.{answer, argument-clear, step-refused, step-accepted}
 use Rattle.heap.proofs.Accesses.{Within}

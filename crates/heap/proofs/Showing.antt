@@ -1,7 +1,7 @@
 -- Showing a sample, by what left answers for the same p.
 use Prim.Native.Nat.{ℕ, zero, suc, _+_, _-_, _^_, _≤_, _<_}
-use mathlib.Core.Path.{_≡_, refl, sym, _∙_, ap, subst}
-use mathlib.Core.Bool.{Bool, true, false, not, cond, _&&_, false≢true}
+use mathlib.Core.Path.{_≡_, refl, sym, _∙_, ap}
+use mathlib.Core.Bool.{Bool, true, false, cond, false≢true}
 use mathlib.Core.List.{List, [], _∷_, _++_}
 use native.Mathlib.Omega.{arith}
 use borrow.Author.Tests.{ltb-true, eqb-true, eq-eqb, ne-eqb, not-false}
@@ -21,8 +21,8 @@ use Rattle.heap.specs.Judging.{Ready}
 use Rattle.heap.specs.declared.Answer.{Answer}
 use Rattle.heap.specs.declared.Call.{Call}
 use Rattle.heap.specs.declared.Call.the-variants.{Left}
-use Rattle.heap.proofs.Judging.{positive, arguments-positive, argument-clear, fits-sized}
-use Rattle.heap.proofs.Accesses.{Within, plain-within}
+use Rattle.heap.proofs.Judging.{positive, arguments-positive, fits-sized}
+use Rattle.heap.proofs.Accesses.{plain-within}
 
 settled-number : {S : Type 0} (k v : ℕ) (old new : S) → settled k old v new .answer .number ≡ k
 settled-number zero v old new = refl

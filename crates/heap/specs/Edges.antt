@@ -1,7 +1,7 @@
 -- Document 01, "Edges to prove, as a single statement over one small table".
 use Prim.Native.Nat.{ℕ}
 use mathlib.Core.Path.{_≡_}
-use mathlib.Core.List.{List, [], _∷_}
+use mathlib.Core.List.{[], _∷_}
 use lib.ListN.{replicate}
 use Rattle.heap.specs.Heaps.{Heap, heapOf, heapCall, freshHeap}
 use Rattle.heap.specs.declared.Answer.{Answer}

@@ -1,8 +1,8 @@
 -- Document 01, "The eight calls": the value of a call that is not refused, and the bytes that it leaves. Both are said over a view, for the heap and the ledger alike.
-use Prim.Native.Nat.{ℕ, zero, suc, _+_, _-_, _*_, _^_, min}
-use mathlib.Core.Bool.{Bool, cond}
+use Prim.Native.Nat.{ℕ, zero, suc, _+_, _-_, _^_, min}
+use mathlib.Core.Bool.{cond}
 use mathlib.Core.List.{List}
-use lib.IntN.{ℤ, natAbs}
+use lib.IntN.{natAbs}
 use lib.ListN.{replicate}
 use Rattle.common.specs.Refusals.{Refusal, first}
 use Rattle.common.specs.Bytes.{bigEndian, bytesOf, over, copied}

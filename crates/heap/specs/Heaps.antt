@@ -1,13 +1,13 @@
 -- The heap: an arena and a table of any lengths and contents, and what each call answers and leaves of them.
-use Prim.Native.Nat.{ℕ, zero, suc, _+_, _-_, _*_, _/_, _^_}
-use mathlib.Core.Bool.{Bool, true, false, not, cond, _&&_}
+use Prim.Native.Nat.{ℕ, _-_, _/_, _^_}
+use mathlib.Core.Bool.{Bool, false, not, cond, _&&_}
 use mathlib.Core.List.{List, [], _∷_}
 use lib.Dec.{leb, eqb}
-use lib.IntN.{ℤ, natAbs}
+use lib.IntN.{natAbs}
 use lib.ListN.{length, take, drop, replicate}
-use Rattle.common.specs.Refusals.{Refusal, _when_, first}
+use Rattle.common.specs.Refusals.{_when_, first}
 use Rattle.common.specs.Bytes.{over}
-use Rattle.blocks.specs.Blocks.{base, orderIn, leftIn}
+use Rattle.blocks.specs.Blocks.{base, orderIn}
 use Rattle.blocks.specs.Tables.{damagedBy, freeIn, referentIn}
 use Rattle.blocks.specs.Pointers.{sought, referentAt, address, wrappedSum, checkBits}
 use Rattle.blocks.specs.Orders.{orderOf, neededOrder}
@@ -78,14 +78,14 @@ heapFresh h =
 abbrev pub freshHeap : ℕ → Heap
 freshHeap m = heapOf (replicate (2 ^ m) 0) (replicate (2 ^ (m - slotOrder)) 0)
 
--- The refusals of a plain pointer alone, in check and show: those of left.
+-- The number of a plain pointer alone: the one that left gives, and by which show is refused.
 abbrev pub pointerNumber : Heap → ℕ → ℕ
 pointerNumber h p = first (rules (orderOf (length (h .arena))) (Left p) (viewOf h))
 
 abbrev pub bit : Bool → ℕ
 bit b = cond b 1 0
 
--- The public check of the plain address p and the step i.
+-- The public check of the plain address p and the step i, refused as left is.
 unfoldable pub heapCheck : ℕ → ℕ → Heap → Answer
 heapCheck p i h = judged (rules (orderOf (length (h .arena))) (Left p) (viewOf h)) h (bit (viewOf h .inside p i)) h .answer
 

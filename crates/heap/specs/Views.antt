@@ -1,5 +1,5 @@
 -- What a call is judged by. A view is made of a table, and once more of the ledger's pairs; the rules and values are said once, over a view.
-use Prim.Native.Nat.{ℕ, _+_, _-_, _*_, _^_}
+use Prim.Native.Nat.{ℕ, _+_, _*_, _^_}
 use mathlib.Core.Bool.{Bool, true, false}
 use Rattle.blocks.specs.Blocks.{base}
 use Rattle.blocks.specs.Pointers.{sought, referentAt}

@@ -1,8 +1,7 @@
 // Answers: made, and stored in an answer slice.
 use crate::Answer;
 ghost use mathlib.Core.Path.{_≡_};
-ghost use mathlib.Core.List.{_∷_};
-ghost use Prim.Native.Nat.{_+_, _%_, _≤_};
+ghost use Prim.Native.Nat.{_+_, _≤_};
 ghost use lib.ListN.{length};
 ghost use Rattle.common.specs.Bytes.{over};
 ghost use Rattle.heap.specs.Answers.{answerBytes};

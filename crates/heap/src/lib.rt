@@ -1,7 +1,7 @@
 // The heap: fresh, the eight calls, check and show, on an arena and a table that the caller lends. Each call judges its input, and then
 // calls its inner function in `unchecked`.
 ghost use mathlib.Core.Path.{_≡_};
-ghost use Prim.Native.Nat.{_+_, _-_};
+ghost use Prim.Native.Nat.{_+_};
 ghost use Rattle.heap.specs.Heaps.{heapOf, outcome, heapCall, heapFresh, heapCheck, shown, shownByLeft, shownFrom};
 
 pub mod answers;

@@ -5,7 +5,6 @@ ghost use Prim.Native.Nat.{_≤_, _^_};
 ghost use mathlib.Core.Bool.{false};
 ghost use mathlib.Core.List.{[], _∷_};
 ghost use lib.Dec.{leb};
-ghost use lib.ListN.{length};
 ghost use Rattle.common.specs.Refusals.{_when_, first};
 ghost use Rattle.blocks.specs.Pointers.{marked};
 ghost use Rattle.heap.specs.Rules.{badWidth, argumentRules};

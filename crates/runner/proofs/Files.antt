@@ -1,5 +1,5 @@
 -- What an accepted file is known to have, and how many records at most.
-use Prim.Native.Nat.{ℕ, zero, suc, _+_, _≤_}
+use Prim.Native.Nat.{ℕ, zero, suc, _≤_}
 use mathlib.Core.Path.{_≡_, refl}
 use mathlib.Core.Bool.{Bool, true, false, not, cond}
 use mathlib.Core.List.{List}
@@ -9,7 +9,7 @@ use lib.Dec.{eqb, ltb}
 use lib.ListN.{length}
 use borrow.Author.Tests.{eqb-true, eqb-false}
 use Rattle.takes.specs.Reading.{Given, readAt}
-use Rattle.takes.specs.Files.{Walk, onward, turn, walk, walkFrom, headLength, headNumber, recordsNumber, fileNumber}
+use Rattle.takes.specs.Files.{Walk, turn, walk, walkFrom, headLength, headNumber, recordsNumber, fileNumber}
 use Rattle.takes.specs.declared.Record.{Record}
 use Rattle.takes.proofs.Judging.{Head, head-accepted}
 

@@ -1,5 +1,5 @@
 -- A run's refusals, each where the code returns it, and what is known where there is none.
-use Prim.Native.Nat.{ℕ, zero, suc, _+_, _-_, _*_, _/_, _^_, _≤_, _<_}
+use Prim.Native.Nat.{ℕ, zero, suc, _-_, _*_, _^_, _≤_, _<_}
 use mathlib.Core.Path.{_≡_, refl, sym, _∙_, ap}
 use mathlib.Core.Bool.{Bool, true, false, not, cond, _||_}
 use mathlib.Core.List.{List}
@@ -8,7 +8,7 @@ use lib.Dec.{eqb, ltb}
 use lib.ListN.{length}
 use borrow.Author.Tests.{eqb-true, eqb-false, eq-eqb, ne-eqb, lt-ltb, le-ltb, ltb-false}
 use Rattle.common.specs.Refusals.{first}
-use Rattle.takes.specs.Files.{walk, headLength, longest, sizeByte, fileNumber, recordsOf, judgement}
+use Rattle.takes.specs.Files.{headLength, longest, sizeByte, fileNumber, recordsOf, judgement}
 use Rattle.takes.specs.declared.Judgement.{Judgement}
 use Rattle.heap.specs.Views.{slotOrder}
 use Rattle.heap.specs.Heaps.{Heap, heapOf}

@@ -1,30 +1,21 @@
 -- Where a run stands between two records, from the fresh heap to the end of the file.
-use Prim.Native.Nat.{ℕ, zero, suc, _+_, _-_, _*_, _^_, _≤_, _<_}
+use Prim.Native.Nat.{ℕ, suc, _+_, _-_, _*_, _≤_, _<_}
 use mathlib.Core.Path.{_≡_, refl, sym, _∙_, ap, ap₂, subst}
-use mathlib.Core.Bool.{Bool, true, false}
-use mathlib.Core.List.{List, [], _∷_}
+use mathlib.Core.List.{List}
 use native.Mathlib.Omega.{arith}
-use lib.Dec.{leb, eqb}
-use lib.ListN.{length, replicate}
-use borrow.Author.Tests.{le-leb, eq-eqb}
-use Rattle.common.specs.Bytes.{over}
-use Rattle.blocks.specs.Sets.{tableOf}
-use Rattle.blocks.specs.Orders.{orderOf}
-use Rattle.blocks.proofs.Orders.{order-power}
-use Rattle.blocks.proofs.SetTables.{table-length}
+use lib.ListN.{length}
 use Rattle.takes.specs.Reading.{accepted, refused, readAt}
 use Rattle.takes.specs.Files.{Walk, ended, before, walkFrom, headLength, recordsOf}
 use Rattle.takes.specs.declared.Record.{Record}
-use Rattle.takes.proofs.Walks.{Next, found-next, from-end, from-refused, refused-number}
-use Rattle.heap.specs.Views.{View, slotOrder}
+use Rattle.takes.proofs.Walks.{found-next, from-end, from-refused, refused-number}
 use Rattle.heap.specs.Effects.{Outcome}
-use Rattle.heap.specs.Heaps.{Heap, heapOf, heapCall, heapFresh, freshHeap, outcome}
+use Rattle.heap.specs.Heaps.{Heap, heapOf, heapFresh, freshHeap, outcome}
 use Rattle.heap.specs.Judging.{Sound}
 use Rattle.heap.specs.declared.Answer.{Answer}
 use Rattle.history.specs.Ledgers.{Ledger, ledgerStep, emptyLedger}
 use Rattle.history.proofs.Agreement.{Agree}
-use Rattle.history.proofs.Simulation.{view-same}
-use Rattle.history.proofs.Runs.{fresh-agree, call-same}
+use Rattle.history.proofs.Simulation.{agree-sound}
+use Rattle.history.proofs.Runs.{fresh-agree, fresh-made, call-same}
 use Rattle.runner.specs.Registers.{registersAtFirst, callOf}
 use Rattle.runner.specs.Carrying.{State, stateOf, atFirst, oneRecord, allRecords, Runnable}
 use Rattle.runner.proofs.Files.{accepted-file}
@@ -34,23 +25,6 @@ use Rattle.runner.proofs.Records.{all-next, all-none}
 pub record Kept (m : ℕ) (h : Heap) : Type 0 where
   pub ledger : Ledger
   pub agree : Agree m h ledger
-
--- its table is undamaged, so a run never scans it
-pub kept-sound : (m : ℕ) → 5 ≤ m → m ≤ 16 → (h : Heap) → Kept m h → Sound m (h .arena) (h .table)
-kept-sound m low high h k =
-    record {
-      low = low;
-      high = high;
-      size = k .agree .size;
-      slots = ap length (k .agree .table) ∙ table-length slotOrder m (k .ledger .pairs);
-      whole = ap (λ (w : View). w .damaged) (view-same m low high h (k .ledger) (k .agree));
-    }
-
--- fresh, where the lengths fit
-fresh-made : (m : ℕ) (a t : List ℕ) → 5 ≤ m → m ≤ 16 → length a ≡ 2 ^ m → length t ≡ 2 ^ (m - slotOrder) → heapFresh (heapOf a t) .state ≡ freshHeap m
-unfolding heapFresh
-fresh-made m a t low high p q =
-    rw (p, q, order-power m low high, le-leb 5 m low, le-leb m 16 high, eq-eqb (2 ^ m) (2 ^ m) refl, eq-eqb (2 ^ (m - slotOrder)) (2 ^ (m - slotOrder)) refl)
 
 -- what is still to come from here gives what the whole run gives
 pub record Going (m : ℕ) (file out₀ a t rs out : List ℕ) (at place : ℕ) : Type 0 where
@@ -69,7 +43,7 @@ going-start m file a t out a′ t′ rs x r e z =
     let f = accepted-file file (r .judged) in
     let low : 5 ≤ m = omega (arith, f .head .low, r .same) in
     let high : m ≤ 16 = omega (arith, f .head .high, r .same) in
-    let h : heapOf a′ t′ ≡ freshHeap m = ap (λ (o : Outcome Heap). o .state) e ∙ fresh-made m a t low high (r .size) (r .slots) in
+    let h : heapOf a′ t′ ≡ freshHeap m = ap (λ (o : Outcome Heap). o .state) e ∙ fresh-made m (heapOf a t) low high (r .size) (r .slots) in
     record {
       low = low;
       high = high;
@@ -81,8 +55,9 @@ going-start m file a t out a′ t′ rs x r e z =
     }
 
 module _ {m : ℕ} {file out₀ a t rs out : List ℕ} {at place : ℕ} (g : Going m file out₀ a t rs out at place) where
+  -- the table is undamaged, so a run never scans it
   pub going-sound : Sound m a t
-  going-sound = kept-sound m (g .low) (g .high) (heapOf a t) (g .kept)
+  going-sound = agree-sound m (g .low) (g .high) (heapOf a t) (g .kept .ledger) (g .kept .agree)
 
   pub going-end : length file ≤ at → stateOf a t rs out ≡ allRecords (recordsOf file) 0 (atFirst m out₀)
   going-end h =

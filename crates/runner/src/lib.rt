@@ -22,6 +22,9 @@ pub struct Ran {
     pub count: u32,
 }
 
+// The place of the first record.
+const HEAD: usize = 2;
+
 // Sixteen zero registers and count 0.
 fn refused(number: u32) -> Ran
     ensures { λ r. ⌜ r ≡ record { number = number; registers = record { values = registersAtFirst }; count = 0 } ⌝ }
@@ -65,7 +68,7 @@ fn carry_out(
 {
     heap::fresh(arena, table);
     let mut registers = registers::at_first();
-    let mut at = 2usize;
+    let mut at = HEAD;
     let mut place = 0usize;
     while at < file.len() {
         let reading = takes::read(file, at);
@@ -75,6 +78,7 @@ fn carry_out(
                 at = next;
                 place += 5;
             }
+            // never: the file was judged
             Reading::Refused(_) => {
                 return registers;
             }

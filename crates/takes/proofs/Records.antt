@@ -1,35 +1,25 @@
 -- The record of an operation from the bytes of its fields, and a record's bytes.
 use Prim.Native.Nat.{ℕ, _+_, _%_, _≤_, _<_}
 use mathlib.Core.Path.{_≡_, refl, sym, _∙_, ap}
-use mathlib.Core.Bool.{Bool, true, false, cond}
+use mathlib.Core.Bool.{true, false}
 use mathlib.Core.List.{List, _∷_, _++_}
 use native.Mathlib.Omega.{arith}
 use native.Mathlib.Nat.{mod-eq-of-lt, zero-add}
-use lib.Dec.{eqb}
-use lib.ListN.{length, getD, take, drop, set}
-use lib.Seq.{getD-drop, sets, sets-eq}
-use borrow.Author.Tests.{lt-ltb, le-ltb}
-use Rattle.takes.specs.Operations.{Kind, known, kindsOf, sizes}
+use lib.Dec.{leb}
+use lib.ListN.{length, getD, drop, set, length-set}
+use Rattle.common.specs.Bytes.{bytesOf, over}
+use Rattle.common.proofs.Bytes.{over-first}
+use borrow.Author.Tests.{lt-ltb, le-ltb, leb-true}
+use Rattle.takes.specs.Operations.{known, kindsOf, sizes}
 use Rattle.takes.specs.Records.{operation, fields, recordOf}
 use Rattle.takes.specs.Reading.{values, highRegister}
 use Rattle.takes.specs.Writing.{valueBytes, recordBytes, writeRecord}
-use Rattle.takes.specs.Table.{lengthIn, kindAt, padded}
+use Rattle.takes.specs.Table.{lengthIn, kindAt, sizeAt, padded}
 use Rattle.takes.specs.RoundTrips.{Bytes}
 use Rattle.takes.specs.declared.Record.{Record}
 use Rattle.takes.specs.declared.Record.the-variants.{Get, Give, Step, Read, Write, Left, Copy, Fill}
 use Rattle.takes.proofs.Operations.{InTable, in-table}
-use Rattle.takes.proofs.Fields.{codeAt, value-at}
-
-pub bytes-drop : (n : ℕ) (bs : List ℕ) → Bytes bs → Bytes (drop n bs)
-bytes-drop n bs h i = rw getD-drop (h (n + i))
-
--- a field that is no word is a byte
-byte-small : (ks : List Kind) (bs : List ℕ) (k : ℕ) → Bytes bs → eqb (codeAt ks k) 3 ≡ false → getD (values ks bs) k 0 < 256
-byte-small ks bs k h e = rw (value-at ks bs k, e) (go (eqb (codeAt ks k) 0))
-  where
-    go : (b : Bool) → cond b 0 (getD (drop (sizes (take k ks)) bs) 0 0) < 256
-    go true = omega arith
-    go false = bytes-drop (sizes (take k ks)) bs h 0
+use Rattle.takes.proofs.Fields.{codeAt, byte-small}
 
 from-four : (op : ℕ) → 0 < op → (op ≡ 1 → ⊥) → (op ≡ 2 → ⊥) → (op ≡ 3 → ⊥) → 4 ≤ op
 from-four op a b c d = omega arith
@@ -42,13 +32,10 @@ module _ (op : ℕ) (bs : List ℕ) (bytes : Bytes bs) where
   abbrev field : ℕ → ℕ
   field k = getD (values (kindsOf op) bs) k 0
 
-  byte-is : (k v : ℕ) → v ≡ field k % 256 → eqb (kindAt op k) 3 ≡ false → v ≡ field k
-  unfolding kindAt
-  byte-is k v p e = p ∙ mod-eq-of-lt (byte-small (kindsOf op) bs k bytes e)
-
   module _ (x y z v : ℕ) (px : x ≡ field 0 % 256) (py : y ≡ field 1 % 256) (pz : z ≡ field 2 % 256) where
-    is : (k w n : ℕ) → w ≡ field k % 256 → op ≡ n → eqb (kindAt n k) 3 ≡ false → w ≡ field k
-    is k w n p e f = byte-is k w p (ap (λ (o : ℕ). eqb (kindAt o k) 3) e ∙ f)
+    is : (k w n : ℕ) → w ≡ field k % 256 → op ≡ n → leb (sizeAt (kindAt n k)) 1 ≡ true → w ≡ field k
+    unfolding kindAt
+    is k w n p e f = p ∙ mod-eq-of-lt (byte-small (kindsOf op) bs k bytes (leb-true (sizeAt (codeAt (kindsOf op) k)) 1 (ap (λ (o : ℕ). leb (sizeAt (kindAt o k)) 1) e ∙ f)))
 
     pub get-is : op ≡ 1 → v ≡ field 1 → Get x v ≡ recordOf op (values (kindsOf op) bs)
     unfolding recordOf kindAt kindsOf
@@ -98,7 +85,7 @@ pub record Sound (r : Record) : Type 0 where
   pub padded-bytes : valueBytes (kindsOf (operation r)) (padded (fields r)) ≡ valueBytes (kindsOf (operation r)) (fields r)
 
 pub sound : (r : Record) → Sound r
-unfolding known kindsOf
+unfolding known kindsOf bytesOf
 sound (Get d n) = record { in-table = refl; bytes = refl; columns = refl; padded-high = refl; padded-bytes = refl }
 sound (Give a) = record { in-table = refl; bytes = refl; columns = refl; padded-high = refl; padded-bytes = refl }
 sound (Step d a i) = record { in-table = refl; bytes = refl; columns = refl; padded-high = refl; padded-bytes = refl }
@@ -144,11 +131,13 @@ module _ (r : Record) (out : List ℕ) (op : ℕ) (vs : List ℕ) (taken : (op �
     write-short h = rw (← high-is, ← low, count-is, lt-ltb (length out) (lengthIn op + 1) h)
 
     pub write-done : (n m : ℕ) (out′ : List ℕ) → m ≡ n → n ≡ lengthIn op → n + 1 ≤ length out
-        → out′ ≡ sets (set (set out 0 n) 1 op) 2 (valueBytes (kindsOf op) vs) → record { number = 0; count = m + 1; slice = out′ } ≡ writeRecord r out
-    unfolding writeRecord
+        → out′ ≡ over (set (set out 0 n) 1 op) 2 (valueBytes (kindsOf op) vs) → record { number = 0; count = m + 1; slice = out′ } ≡ writeRecord r out
+    unfolding writeRecord over
     write-done n m out′ p q h e =
         let b : recordBytes r ≡ n ∷ op ∷ valueBytes (kindsOf op) vs = rw q bytes-are in
         let l : length (recordBytes r) ≡ n + 1 = rw q count-is in
+        let f : over out 0 (n ∷ op ∷ valueBytes (kindsOf op) vs) ≡ over (set (set out 0 n) 1 op) 2 (valueBytes (kindsOf op) vs) =
+        over-first out 0 n (op ∷ valueBytes (kindsOf op) vs) (omega arith) ∙ over-first (set out 0 n) 1 op (valueBytes (kindsOf op) vs) (simp length-set (omega (arith, length-is))) in
         let z : out′ ≡ recordBytes r ++ drop (length (recordBytes r)) out =
-        e ∙ (ap (sets out 0) (sym b) ∙ (sets-eq (recordBytes r) out 0 (omega arith) ∙ ap (λ (k : ℕ). recordBytes r ++ drop k out) (zero-add (length (recordBytes r))))) in
+        e ∙ (sym f ∙ (ap (over out 0) (sym b) ∙ ap (λ (k : ℕ). recordBytes r ++ drop k out) (zero-add (length (recordBytes r))))) in
         rw (← high-is, ← low, z, l, p, le-ltb (length out) (n + 1) h)

@@ -16,7 +16,7 @@ use Rattle.takes.specs.RoundTrips.{Bytes}
 use Rattle.takes.specs.declared.Record.{Record}
 use Rattle.takes.specs.declared.Judgement.{Judgement}
 use Rattle.takes.specs.declared.Written.{Written}
-use Rattle.takes.proofs.Records.{bytes-drop}
+use Rattle.takes.proofs.Numbers.{bytes-drop}
 use Rattle.takes.proofs.Heads.{two-set, head-stored}
 use Rattle.takes.proofs.Readings.{Whole, theRecord}
 use Rattle.takes.proofs.Walks.{Next}

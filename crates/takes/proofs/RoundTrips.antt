@@ -18,8 +18,9 @@ use Rattle.takes.specs.RoundTrips.{RecordFits, RecordsFit, Bytes, RoundT
 use Rattle.takes.specs.declared.Record.{Record}
 use Rattle.takes.specs.declared.Record.the-variants.{Get, Give, Step, Read, Write, Left, Copy, Fill}
 use Rattle.takes.proofs.Operations.{every-operation}
-use Rattle.takes.proofs.Bytes.{values-forth, fit-low, values-back}
-use Rattle.takes.proofs.Records.{sound, bytes-drop}
+use Rattle.takes.proofs.Fields.{values-forth, fit-low, values-back}
+use Rattle.takes.proofs.Records.{sound}
+use Rattle.takes.proofs.Numbers.{bytes-drop}
 use Rattle.takes.proofs.Heads.{good}
 use Rattle.takes.proofs.Readings.{Whole, theRecord}
 use Rattle.takes.proofs.Walks.{nextPlace, whole-inside, from-end, from-found, accepted-whole}

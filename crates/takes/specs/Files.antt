@@ -5,7 +5,7 @@ use mathlib.Core.List.{List, [], _∷_}
 use mathlib.Core.Option.{Option, none, some}
 use lib.Dec.{eqb, leb, ltb}
 use lib.ListN.{length, getD}
-use Rattle.takes.specs.Rules.{Refusal, _when_, first}
+use Rattle.common.specs.Refusals.{Refusal, _when_, first}
 use Rattle.takes.specs.Reading.{Given, readAt}
 use Rattle.takes.specs.declared.Record.{Record}
 use Rattle.takes.specs.declared.Judgement.{Judgement}
@@ -25,6 +25,7 @@ abbrev pub onward : (ℕ → Walk) → ℕ → Option Record → ℕ → Walk
 onward go number none next = ended number
 onward go number (some r) next = before r (go next)
 
+-- at the end nothing is left to come
 abbrev pub turn : Bool → (ℕ → Walk) → Given → Walk
 turn true go g = onward go (g .number) (g .found) (g .next)
 turn false go g = ended 0
@@ -48,22 +49,25 @@ longest = 8192
 abbrev pub sizeByte : List ℕ → ℕ
 sizeByte file = getD file 1 0
 
+-- whether it may be one
 abbrev pub isSize : ℕ → Bool
 isSize m = leb 5 m && leb m 16
 
+-- the number of the first record that is refused, 0 where none is
 abbrev pub recordsNumber : List ℕ → ℕ
 recordsNumber file = walkFrom file headLength .number
 
 abbrev pub headRules : List ℕ → List Refusal
 headRules file =
     1 when (eqb (length file) 0 || not (eqb (getD file 0 0) 1))
-    ∷ 2 when (ltb (length file) 2 || not (isSize (sizeByte file)))
+    ∷ 2 when (ltb (length file) headLength || not (isSize (sizeByte file)))
     ∷ 3 when ltb longest (length file)
     ∷ []
 
 unfoldable pub headNumber : List ℕ → ℕ
 headNumber file = first (headRules file)
 
+-- 1, 2, 3, then record by record
 abbrev pub fileRules : List ℕ → List Refusal
 fileRules file = headNumber file when not (eqb (headNumber file) 0) ∷ recordsNumber file when not (eqb (recordsNumber file) 0) ∷ []
 
@@ -73,6 +77,7 @@ fileNumber file = first (fileRules file)
 unfoldable pub recordsOf : List ℕ → List Record
 recordsOf file = walkFrom file headLength .records
 
+-- refused, it has no size and counts no record
 abbrev pub judgement : List ℕ → Judgement
 judgement file =
     cond (eqb (fileNumber file) 0)

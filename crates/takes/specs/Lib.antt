@@ -1,4 +1,3 @@
-pub mod Rules
 pub mod Operations
 pub mod Records
 pub mod Reading

@@ -1,27 +1,22 @@
 -- Reading the record at a place of a file.
-use Prim.Native.Nat.{ℕ, _+_, _-_, _*_}
+use Prim.Native.Nat.{ℕ, _+_, _-_}
 use mathlib.Core.Bool.{Bool, false, not, cond, _||_}
 use mathlib.Core.List.{List, [], _∷_}
 use mathlib.Core.Option.{Option, none, some}
 use lib.Dec.{eqb, ltb}
 use lib.ListN.{length, getD, drop}
-use Rattle.takes.specs.Rules.{Refusal, _when_, first}
+use Rattle.common.specs.Refusals.{Refusal, _when_, first}
+use Rattle.common.specs.Bytes.{bigEndian}
 use Rattle.takes.specs.Operations.{Kind, register, byte, word, size, known, kindsOf, lengthOf}
 use Rattle.takes.specs.Records.{recordOf}
 use Rattle.takes.specs.declared.Record.{Record}
 use Rattle.takes.specs.declared.Reading.{Reading}
 use Rattle.takes.specs.declared.Reading.the-variants.{Found, Refused}
 
--- the field that stands at the start of some bytes
-abbrev pub value : Kind → List ℕ → ℕ
-value register bs = getD bs 0 0
-value byte bs = getD bs 0 0
-value word bs = ((getD bs 0 0 * 256 + getD bs 1 0) * 256 + getD bs 2 0) * 256 + getD bs 3 0
-
--- fields that stand there one after the other
+-- the values of fields that stand one after the other at the start of some bytes
 abbrev pub values : List Kind → List ℕ → List ℕ
 values [] bs = []
-values (k ∷ ks) bs = value k bs ∷ values ks (drop (size k) bs)
+values (k ∷ ks) bs = bigEndian bs 0 (size k) ∷ values ks (drop (size k) bs)
 
 abbrev pub above15 : Kind → ℕ → Bool
 above15 register v = ltb 15 v
@@ -46,6 +41,7 @@ fieldValues bs = values (kindsOf (operationByte bs)) (drop 2 bs)
 
 -- past the end there is no byte, and the length reads as 0
 unfoldable pub readRules : List ℕ → List Refusal
+unfolding bigEndian
 readRules bs =
     4 when (eqb (lengthByte bs) 0 || ltb (length bs - 1) (lengthByte bs))
     ∷ 5 when not (known (operationByte bs))
@@ -70,10 +66,12 @@ abbrev pub given : Reading → Given
 given (Found r next) = accepted r next
 given (Refused n) = refused n
 
+-- by its number a record is given or refused
 abbrev pub judged : ℕ → Given → Given
 judged n g = cond (eqb n 0) g (refused n)
 
 unfoldable pub readBytes : List ℕ → ℕ → Given
+unfolding bigEndian
 readBytes bs at =
     judged (first (readRules bs))
     (accepted (recordOf (operationByte bs) (fieldValues bs)) (at + 1 + lengthByte bs))

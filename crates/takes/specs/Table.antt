@@ -1,7 +1,7 @@
 -- The operation table as the code holds it: numbers for the kinds, and rows of equal length.
-use Prim.Native.Nat.{ℕ, _/_, _%_}
+use Prim.Native.Nat.{ℕ}
 use mathlib.Core.Bool.{Bool, false, cond}
-use mathlib.Core.List.{List, [], _∷_, _++_, map}
+use mathlib.Core.List.{List, _++_, map}
 use lib.Dec.{eqb, ltb}
 use lib.ListN.{getD, take, replicate}
 use Rattle.takes.specs.Operations.{Kind, register, byte, word, known, kindsOf, lengthOf}
@@ -26,17 +26,12 @@ code word = 3
 unfoldable pub kindAt : ℕ → ℕ → ℕ
 kindAt op k = getD (map code (kindsOf op)) k 0
 
--- by a kind's number: the bytes that a field takes, whether a value is a register above 15, a value's bytes
+-- by a kind's number: the bytes that a field takes, and whether a value is a register above 15
 abbrev pub sizeAt : ℕ → ℕ
 sizeAt c = cond (eqb c 0) 0 (cond (eqb c 3) 4 1)
 
 abbrev pub highAt : ℕ → ℕ → Bool
 highAt c v = cond (eqb c 1) (ltb 15 v) false
-
-abbrev pub bytesAt : ℕ → ℕ → List ℕ
-bytesAt c v =
-    cond (eqb c 0) []
-    (cond (eqb c 3) (v / 16777216 % 256 ∷ v / 65536 % 256 ∷ v / 256 % 256 ∷ v % 256 ∷ []) (v % 256 ∷ []))
 
 -- values with zeros after them, one for each column
 abbrev pub padded : List ℕ → List ℕ

@@ -1,29 +1,26 @@
 -- Writing the head of a file and its records.
-use Prim.Native.Nat.{ℕ, _/_, _%_}
+use Prim.Native.Nat.{ℕ}
 use mathlib.Core.Bool.{not, cond}
 use mathlib.Core.List.{List, [], _∷_, _++_}
 use lib.Dec.{eqb, ltb}
 use lib.ListN.{length, drop}
-use Rattle.takes.specs.Rules.{Refusal, _when_, first}
-use Rattle.takes.specs.Operations.{Kind, register, byte, word, kindsOf, lengthOf}
+use Rattle.common.specs.Refusals.{Refusal, _when_, first}
+use Rattle.common.specs.Bytes.{bytesOf}
+use Rattle.takes.specs.Operations.{Kind, kindsOf, size, lengthOf}
 use Rattle.takes.specs.Records.{operation, fields}
 use Rattle.takes.specs.Reading.{highRegister}
 use Rattle.takes.specs.Files.{isSize, fileNumber}
 use Rattle.takes.specs.declared.Record.{Record}
 use Rattle.takes.specs.declared.Written.{Written}
 
--- a field's bytes: the lowest of its value, big-endian
-abbrev pub fieldBytes : Kind → ℕ → List ℕ
-fieldBytes register v = v % 256 ∷ []
-fieldBytes byte v = v % 256 ∷ []
-fieldBytes word v = v / 16777216 % 256 ∷ v / 65536 % 256 ∷ v / 256 % 256 ∷ v % 256 ∷ []
-
+-- the bytes of fields one after the other
 abbrev pub valueBytes : List Kind → List ℕ → List ℕ
 valueBytes [] vs = []
 valueBytes (k ∷ ks) [] = []
-valueBytes (k ∷ ks) (v ∷ vs) = fieldBytes k v ++ valueBytes ks vs
+valueBytes (k ∷ ks) (v ∷ vs) = bytesOf (size k) v ++ valueBytes ks vs
 
 unfoldable pub recordBytes : Record → List ℕ
+unfolding bytesOf
 recordBytes r = lengthOf (operation r) ∷ operation r ∷ valueBytes (kindsOf (operation r)) (fields r)
 
 abbrev pub headBytes : ℕ → List ℕ
@@ -46,13 +43,10 @@ pub record Stored : Type 0 where
 abbrev pub stored : Written → List ℕ → Stored
 stored w slice = record { number = w .number; count = w .count; slice = slice }
 
-abbrev pub over : List ℕ → List ℕ → List ℕ
-over bytes out = bytes ++ drop (length bytes) out
-
 abbrev pub judgedStore : ℕ → List ℕ → List ℕ → Stored
 judgedStore n bytes out =
     cond (eqb n 0)
-    (record { number = 0; count = length bytes; slice = over bytes out })
+    (record { number = 0; count = length bytes; slice = bytes ++ drop (length bytes) out })
     (record { number = n; count = 0; slice = out })
 
 -- the bytes go to the start of the slice, or, refused, nothing is stored

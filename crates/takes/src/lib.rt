@@ -3,13 +3,13 @@ ghost use mathlib.Core.Path.{_≡_};
 ghost use Prim.Native.Nat.{ℕ, _+_, _%_, _≤_, _<_};
 ghost use mathlib.Core.Bool.{true};
 ghost use lib.ListN.{length, getD, take, drop};
-ghost use lib.Seq.{sets};
-ghost use Rattle.takes.specs.Operations.{word, known, kindsOf, sizes};
-ghost use Rattle.takes.specs.Reading.{value, values, highRegister, given, readAt};
+ghost use Rattle.common.specs.Bytes.{over};
+ghost use Rattle.takes.specs.Operations.{known, kindsOf, sizes};
+ghost use Rattle.takes.specs.Reading.{values, highRegister, given, readAt};
 ghost use Rattle.takes.specs.Records.{operation, fields, recordOf};
 ghost use Rattle.takes.specs.Files.{headNumber, judgement};
 ghost use Rattle.takes.specs.Writing.{stored, writeHead, writeRecord, rewriteFile, valueBytes};
-ghost use Rattle.takes.specs.Table.{rows, columns, lengthIn, kindAt, sizeAt, bytesAt, highAt, padded};
+ghost use Rattle.takes.specs.Table.{rows, columns, lengthIn, kindAt, sizeAt, highAt, padded};
 
 // A call of a take with its fields, in the file's order: registers first, then what is given as it stands.
 pub enum Record {
@@ -137,9 +137,12 @@ fn kind_of(op: u8, k: usize) -> u8
     KINDS[row + k]
 }
 
-fn size_of(kind: u8) -> usize
-    ensures { λ r. ⌜ r ≡ sizeAt kind ⌝ }
+// The bytes that the field k takes.
+fn size_of(op: u8, k: usize) -> usize
+    requires { ⌜ (op < rows) × (k < columns) ⌝ }
+    ensures { λ r. ⌜ r ≡ sizeAt (kindAt op k) ⌝ }
 {
+    let kind = kind_of(op, k);
     match kind {
         NONE => 0,
         WORD => 4,
@@ -155,23 +158,10 @@ fn start_of(op: u8, k: usize) -> usize
     let mut start = 0usize;
     let mut i = 0usize;
     while i < k {
-        let kind = kind_of(op, i);
-        start += size_of(kind);
+        start += size_of(op, i);
         i += 1;
     }
     start
-}
-
-// The big-endian number of the four bytes from `at` on.
-fn word_at(file: &[u8], at: usize) -> u32
-    requires { ⌜ at + 4 ≤ length (now file) ⌝ }
-    ensures { λ r. ⌜ r ≡ value word (drop at (now (file .entry))) ⌝ }
-{
-    let a = wide(file[at]);
-    let b = wide(file[at + 1]);
-    let c = wide(file[at + 2]);
-    let d = wide(file[at + 3]);
-    ((a * 256 + b) * 256 + c) * 256 + d
 }
 
 // The field k of a record whose fields start at `at`, straight from the file; 0 where the operation has no such field.
@@ -181,12 +171,8 @@ fn field(file: &[u8], at: usize, op: u8, k: usize) -> u32
     ensures { λ r. ⌜ r ≡ getD (values (kindsOf op) (drop at (now (file .entry)))) k 0 ⌝ }
 {
     let place = at + start_of(op, k);
-    let kind = kind_of(op, k);
-    match kind {
-        NONE => 0,
-        WORD => word_at(file, place),
-        _ => wide(file[place]),
-    }
+    let size = size_of(op, k);
+    common::read_number(file, place, size)
 }
 
 fn byte_field(file: &[u8], at: usize, op: u8, k: usize) -> u8
@@ -399,38 +385,19 @@ fn high_in_parts(p: Parts) -> bool
     false
 }
 
-// Stores a field of one kind at a place.
-fn put(out: &mut [u8], at: usize, kind: u8, v: u32)
-    requires { ⌜ at + sizeAt kind ≤ length (now out) ⌝ }
-    ensures { λ _. ⌜ now (out .exit) ≡ sets (now (out .entry)) at (bytesAt kind v) ⌝ }
-{
-    match kind {
-        NONE => {}
-        WORD => {
-            out[at] = (v / 16777216 % 256) as u8;
-            out[at + 1] = (v / 65536 % 256) as u8;
-            out[at + 2] = (v / 256 % 256) as u8;
-            out[at + 3] = (v % 256) as u8;
-        }
-        _ => {
-            out[at] = (v % 256) as u8;
-        }
-    }
-}
-
 fn put_fields(out: &mut [u8], p: Parts)
     requires { ⌜ (known (p .op) ≡ true) × (length (p .values) ≡ columns) ⌝ }
     requires { ⌜ 2 + sizes (kindsOf (p .op)) ≤ length (now out) ⌝ }
-    ensures { λ _. ⌜ now (out .exit) ≡ sets (now (out .entry)) 2 (valueBytes (kindsOf (p .op)) (p .values)) ⌝ }
+    ensures { λ _. ⌜ now (out .exit) ≡ over (now (out .entry)) 2 (valueBytes (kindsOf (p .op)) (p .values)) ⌝ }
 {
     let op = p.op;
     let mut at = 2usize;
     let mut k = 0usize;
     while k < FIELDS {
-        let kind = kind_of(op, k);
+        let size = size_of(op, k);
         let v = p.values[k];
-        put(out, at, kind, v);
-        at += size_of(kind);
+        common::write_number(out, at, size, v);
+        at += size;
         k += 1;
     }
 }

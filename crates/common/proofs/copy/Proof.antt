@@ -1,9 +1,8 @@
-use Prim.Native.Nat.{ℕ, zero, suc, _+_, _-_, _*_, _/_, _%_, _^_, _≤_, _<_}
-use mathlib.Core.Path.{_≡_, refl, sym, _∙_, ap, subst}
-use mathlib.Core.List.{List}
+use Prim.Native.Nat.{_+_, _-_, _≤_}
+use mathlib.Core.Path.{_≡_, refl, sym, _∙_}
 use native.Mathlib.Omega.{arith}
 use native.Mathlib.Nat.{add-zero, sub-zero}
-use lib.ListN.{length, set, replicate, length-set}
+use lib.ListN.{length, length-set}
 use Rattle.common.specs.Bytes.{copied}
 use Rattle.common.proofs.Loops.{copy-turn, copy-end}
 use borrow.Author.Needs.{needs}

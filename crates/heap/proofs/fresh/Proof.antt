@@ -1,9 +1,6 @@
 -- `fresh` meets its contract.
 use mathlib.Core.Path.{_∙_, ap}
-use native.Mathlib.Omega.{arith}
 use borrow.Author.Needs.{needs}
-use lib.ListN.{length}
-use mathlib.Core.List.{List}
 use Rattle.heap.specs.Heaps.{outcome}
 use Rattle.heap.specs.declared.Answer.{Answer}
 use Rattle.heap.proofs.Judging.{fresh-refused, fresh-done}

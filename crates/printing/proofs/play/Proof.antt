@@ -1,8 +1,7 @@
 -- The buffers are as long as they are said to be, and an accepted run had room for its answers.
-use Prim.Native.Nat.{_/_, _*_, _≤_}
+use Prim.Native.Nat.{_/_}
 use mathlib.Core.Path.{sym}
 use native.Mathlib.Omega.{arith}
-use lib.ListN.{length}
 use lib.Seq.{length-take-le}
 use Rattle.runner.proofs.Judging.{ran-room}
 use borrow.Author.Needs.{needs}

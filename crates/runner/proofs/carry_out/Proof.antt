@@ -1,11 +1,11 @@
 -- The loop keeps `Going`: what is still to come gives what the whole run gives. A file that was judged has no refused record, so the early return
 -- is never reached.
-use Prim.Native.Nat.{ℕ, _+_, _-_, _*_, _≤_, _<_}
+use Prim.Native.Nat.{ℕ, _+_, _-_, _≤_, _<_}
 use mathlib.Core.Path.{_≡_, sym, _∙_, ap}
 use native.Mathlib.Omega.{arith}
 use borrow.Author.Needs.{needs}
 use lib.ListN.{length}
-use Rattle.takes.specs.Reading.{accepted, refused, given, readAt}
+use Rattle.takes.specs.Reading.{accepted, given, readAt}
 use Rattle.runner.proofs.Running.{Going, going-start, going-sound, going-room, going-further, going-step, going-refused, going-end}
 use Rattle.runner.proofs.carry_out.Statement.{statement}
 use Rattle.runner.proofs.carry_out.Tie as tie

@@ -1,10 +1,10 @@
 -- Each refusal is the first that applies at its return. Past them all the run is what the records leave.
-use Prim.Native.Nat.{ℕ, _+_, _-_, _*_, _/_, _^_, _≤_, _<_}
+use Prim.Native.Nat.{ℕ, _-_, _^_, _≤_}
 use mathlib.Core.Path.{_≡_, refl, sym, _∙_, ap}
 use native.Mathlib.Omega.{arith}
 use borrow.Author.Needs.{needs}
 use lib.ListN.{length}
-use Rattle.takes.specs.Files.{sizeByte, fileNumber, recordsOf}
+use Rattle.takes.specs.Files.{sizeByte, fileNumber}
 use Rattle.heap.specs.Views.{slotOrder}
 use Rattle.runner.specs.Carrying.{Runnable}
 use Rattle.runner.proofs.Files.{accepted-file}

@@ -50,7 +50,7 @@ loop-again c =
 returns-2 : tie.Need-returns-2 Inv-loop μ-loop
 returns-2 c =
     let a = c .before .before .before .args in
-    high-none (a .op) (c .before .loop .k) (values (kindsOf (a .op)) (drop (a .at) (a .file .now))) (omega (arith, in-table (a .op) (c .before .before .before .pre .0))) ∙ c .before .loop .inv .1
+    high-none (a .op) (c .before .loop .k) (omega (arith, in-table (a .op) (c .before .before .before .pre .0))) (values (kindsOf (a .op)) (drop (a .at) (a .file .now))) ∙ c .before .loop .inv .1
 
 pub high-in-file-spec : {M : Type 1} → statement M
 high-in-file-spec =

@@ -50,7 +50,7 @@ loop-again c =
 returns-2 : tie.Need-returns-2 Inv-loop μ-loop
 returns-2 c =
     let p = c .before .before .args .t1 in
-    high-none (p .op) (c .before .loop .k) (p .values) (omega (arith, in-table (p .op) (c .before .before .pre .0))) ∙ c .before .loop .inv .1
+    high-none (p .op) (c .before .loop .k) (omega (arith, in-table (p .op) (c .before .before .pre .0))) (p .values) ∙ c .before .loop .inv .1
 
 pub high-in-parts-spec : {M : Type 1} → statement M
 high-in-parts-spec =

@@ -2,7 +2,8 @@
 use native.Mathlib.Omega.{arith}
 use lib.ListN.{drop}
 use Rattle.takes.proofs.Operations.{in-table}
-use Rattle.takes.proofs.Records.{bytes-drop, get-is, give-is, step-is, read-is, write-is, left-is, copy-is, fill-is}
+use Rattle.takes.proofs.Numbers.{bytes-drop}
+use Rattle.takes.proofs.Records.{get-is, give-is, step-is, read-is, write-is, left-is, copy-is, fill-is}
 use Rattle.takes.proofs.record_at.Statement.{statement}
 use Rattle.takes.proofs.record_at.Tie as tie
 

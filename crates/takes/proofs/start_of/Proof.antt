@@ -3,8 +3,8 @@ use Prim.Native.Nat.{ℕ, _-_, _*_, _≤_}
 use mathlib.Core.Path.{_≡_, refl, _∙_, ap}
 use native.Mathlib.Omega.{arith}
 use lib.ListN.{take}
-use borrow.Author.Needs.{needs}
 use Rattle.takes.specs.Operations.{kindsOf, sizes}
+use Rattle.takes.specs.Table.{kindAt}
 use Rattle.takes.proofs.Fields.{size-few, start-turn}
 use Rattle.takes.proofs.start_of.Statement.{statement}
 use Rattle.takes.proofs.start_of.Tie as tie
@@ -18,14 +18,11 @@ abbrev μ-loop : tie.MeasureT-loop
 loop-holds : tie.Need-loop-holds Inv-loop μ-loop
 loop-holds c = (omega arith, refl, omega arith)
 
-kind-of-requires : tie.Need-kind-of-requires Inv-loop μ-loop
-kind-of-requires c κs = omega arith
-
 size-of-requires : tie.Need-size-of-requires Inv-loop μ-loop
-size-of-requires c κs = search needs
+size-of-requires c κs = omega arith
 
 add-start : tie.Need-add-start Inv-loop μ-loop
-add-start c = omega (arith, size-few (c .before .kind-of .result))
+add-start c = omega (arith, size-few (kindAt (c .before .before .before .args .op) (c .before .before .loop .i)))
 
 add-i : tie.Need-add-i Inv-loop μ-loop
 add-i c = omega arith
@@ -35,11 +32,11 @@ loop-less c = omega arith
 
 loop-again : tie.Need-loop-again Inv-loop μ-loop
 loop-again c =
-    let l = c .before .before .before .loop in
-    let a = c .before .before .before .before .args in (
+    let l = c .before .before .loop in
+    let a = c .before .before .before .args in (
       omega arith,
-      start-turn (a .op) (l .i) (l .start) (c .size-of .result) (c .before .kind-of .result) (l .inv .1) (c .before .kind-of .ensures) (c .size-of .ensures),
-      omega (arith, size-few (c .before .kind-of .result)),
+      start-turn (a .op) (l .i) (l .start) (c .size-of .result) (l .inv .1) (c .size-of .ensures),
+      omega (arith, size-few (kindAt (a .op) (l .i))),
     )
 
 returns : tie.Need-returns Inv-loop μ-loop
@@ -56,7 +53,6 @@ start-of-spec =
     Inv-loop
     μ-loop
     loop-holds
-    kind-of-requires
     size-of-requires
     add-start
     add-i

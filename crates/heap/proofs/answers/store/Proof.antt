@@ -1,10 +1,9 @@
-use Prim.Native.Nat.{ℕ, zero, suc, _+_, _-_, _*_, _/_, _%_, _^_, _≤_, _<_}
-use mathlib.Core.Path.{_≡_, refl, sym, _∙_, ap, subst}
+use Prim.Native.Nat.{_%_}
+use mathlib.Core.Path.{sym, _∙_}
 use native.Mathlib.Omega.{arith}
-use borrow.Author.Needs.{needs}
-use lib.ListN.{length, length-set}
+use lib.ListN.{length-set}
 use native.Mathlib.Numerals.{add-one}
-use Rattle.common.specs.Bytes.{over, bytesOf}
+use Rattle.common.specs.Bytes.{bytesOf}
 use Rattle.common.proofs.Bytes.{over-first}
 use Rattle.heap.proofs.answers.store.Statement.{statement}
 use Rattle.heap.proofs.answers.store.Tie as tie

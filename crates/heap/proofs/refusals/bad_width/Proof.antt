@@ -1,6 +1,3 @@
-use Prim.Native.Nat.{ℕ, zero, suc, _+_, _-_, _*_, _/_, _%_, _^_, _≤_, _<_}
-use mathlib.Core.Path.{_≡_, refl, sym, _∙_, ap, subst}
-use native.Mathlib.Omega.{arith}
 use borrow.Author.Tests.{ne-eqb}
 use Rattle.heap.proofs.refusals.bad_width.Statement.{statement}
 use Rattle.heap.proofs.refusals.bad_width.Tie as tie

@@ -1,16 +1,14 @@
 -- `unchecked::get` meets its contract.
 use Prim.Native.Nat.{ℕ, _+_, _-_, _*_, _%_, _^_, _≤_}
-use mathlib.Core.Path.{_≡_, refl, sym, _∙_, ap, ap₂}
-use mathlib.Core.List.{List}
+use mathlib.Core.Path.{_≡_, refl, sym, _∙_, ap}
 use native.Mathlib.Omega.{arith}
 use borrow.Author.Needs.{needs}
 use lib.ListN.{length, replicate}
 use Rattle.common.specs.Bytes.{over}
-use Rattle.blocks.specs.Orders.{neededOrder}
 use Rattle.blocks.specs.Placing.{placeIn}
 use Rattle.blocks.proofs.Orders.{Needed}
 use Rattle.blocks.specs.Tables.{freeIn}
-use Rattle.blocks.specs.declared.Place.the-variants.{At, Nothing}
+use Rattle.blocks.specs.declared.Place.the-variants.{At}
 use Rattle.heap.specs.Heaps.{outcome}
 use Rattle.heap.specs.declared.Answer.{Answer}
 use Rattle.heap.proofs.Placing.{needed, get-none, get-slots, get-bytes, get-small, get-done}

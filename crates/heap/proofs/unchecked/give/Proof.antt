@@ -1,9 +1,9 @@
 -- `unchecked::give` meets its contract.
-use Prim.Native.Nat.{ℕ, _+_, _-_, _*_, _/_, _^_, _≤_}
+use Prim.Native.Nat.{ℕ, _/_}
 use mathlib.Core.Path.{_≡_, refl, sym, _∙_, ap, ap₂}
 use native.Mathlib.Omega.{arith}
 use borrow.Author.Needs.{needs}
-use lib.ListN.{length, replicate}
+use lib.ListN.{replicate}
 use Rattle.common.specs.Bytes.{over}
 use Rattle.blocks.specs.Blocks.{missing}
 use Rattle.blocks.specs.Tables.{referentIn}

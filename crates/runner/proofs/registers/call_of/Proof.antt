@@ -1,103 +1,76 @@
 use borrow.Author.Needs.{needs}
 use Rattle.runner.proofs.registers.call_of.Statement.{statement}
 use Rattle.runner.proofs.registers.call_of.Tie as tie
-use Rattle.runner.proofs.registers.call_of.Reads as reads
-use Rattle.runner.proofs.registers.call_of.Lts as lts
-use Rattle.runner.proofs.registers.value_in.Reads as value-in-reads
 
--- src/registers.rt:50:24
 enum-known-item : tie.Need-enum-known-item
 enum-known-item c = search needs
 
--- src/registers.rt:51:22
 enum-known-item-2 : tie.Need-enum-known-item-2
 enum-known-item-2 c = search needs
 
--- src/registers.rt:51:39
 value-in-requires : tie.Need-value-in-requires
 value-in-requires c κs = search needs
 
--- src/registers.rt:52:25
 enum-known-item-3 : tie.Need-enum-known-item-3
 enum-known-item-3 c = search needs
 
--- src/registers.rt:52:45
 value-in-requires-2 : tie.Need-value-in-requires-2
 value-in-requires-2 c κs = search needs
 
--- src/registers.rt:53:25
 enum-known-item-4 : tie.Need-enum-known-item-4
 enum-known-item-4 c = search needs
 
--- src/registers.rt:53:45
 value-in-requires-3 : tie.Need-value-in-requires-3
 value-in-requires-3 c κs = search needs
 
--- src/registers.rt:54:23
 enum-known-item-5 : tie.Need-enum-known-item-5
 enum-known-item-5 c = search needs
 
--- src/registers.rt:54:47
 value-in-requires-4 : tie.Need-value-in-requires-4
 value-in-requires-4 c κs = search needs
 
--- src/registers.rt:55:25
 enum-known-item-6 : tie.Need-enum-known-item-6
 enum-known-item-6 c = search needs
 
--- src/registers.rt:55:42
 value-in-requires-5 : tie.Need-value-in-requires-5
 value-in-requires-5 c κs = search needs
 
--- src/registers.rt:56:25
 enum-known-item-7 : tie.Need-enum-known-item-7
 enum-known-item-7 c = search needs
 
--- src/registers.rt:56:48
 value-in-requires-6 : tie.Need-value-in-requires-6
 value-in-requires-6 c κs = search needs
 
--- src/registers.rt:56:72
 value-in-requires-7 : tie.Need-value-in-requires-7
 value-in-requires-7 c κs = search needs
 
--- src/registers.rt:57:25
 enum-known-item-8 : tie.Need-enum-known-item-8
 enum-known-item-8 c = search needs
 
--- src/registers.rt:57:48
 value-in-requires-8 : tie.Need-value-in-requires-8
 value-in-requires-8 c κs = search needs
 
--- src/registers.rt:46:1
 returns : tie.Need-returns
 returns c = rw (c .before .item .given .1)
 
--- src/registers.rt:46:1
 returns-2 : tie.Need-returns-2
 returns-2 c = rw (c .value-in .ensures, c .before .before .item2 .given .1)
 
--- src/registers.rt:46:1
 returns-3 : tie.Need-returns-3
 returns-3 c = rw (c .value-in2 .ensures, c .before .before .item3 .given .1)
 
--- src/registers.rt:46:1
 returns-4 : tie.Need-returns-4
 returns-4 c = rw (c .value-in3 .ensures, c .before .before .item4 .given .1)
 
--- src/registers.rt:46:1
 returns-5 : tie.Need-returns-5
 returns-5 c = rw (c .value-in4 .ensures, c .before .before .item5 .given .1)
 
--- src/registers.rt:46:1
 returns-6 : tie.Need-returns-6
 returns-6 c = rw (c .value-in5 .ensures, c .before .before .item6 .given .1)
 
--- src/registers.rt:46:1
 returns-7 : tie.Need-returns-7
 returns-7 c = rw (c .before .value-in6 .ensures, c .value-in7 .ensures, c .before .before .before .item7 .given .1)
 
--- src/registers.rt:46:1
 returns-8 : tie.Need-returns-8
 returns-8 c = rw (c .value-in8 .ensures, c .before .before .item8 .given .1)
 

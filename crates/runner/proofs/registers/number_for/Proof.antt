@@ -1,4 +1,3 @@
-use mathlib.Core.Path.{_≡_, sym}
 use borrow.Author.Tests.{lt-ltb, le-ltb}
 use Rattle.runner.proofs.registers.number_for.Statement.{statement}
 use Rattle.runner.proofs.registers.number_for.Tie as tie

@@ -1,9 +1,9 @@
 -- A register above 15 holds 0, as any place past the end of the list reads.
-use Prim.Native.Nat.{ℕ, _≤_}
-use mathlib.Core.Path.{_≡_, sym, _∙_, ap}
+use Prim.Native.Nat.{ℕ}
+use mathlib.Core.Path.{_≡_, sym}
 use native.Mathlib.Omega.{arith}
 use borrow.Author.Needs.{needs}
-use lib.ListN.{length, getD, List·getD-eq-default}
+use lib.ListN.{length, List·getD-eq-default}
 use Rattle.runner.proofs.registers.value_in.Statement.{statement}
 use Rattle.runner.proofs.registers.value_in.Tie as tie
 

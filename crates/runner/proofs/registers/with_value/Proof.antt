@@ -1,9 +1,9 @@
 -- A store to a register above 15 changes nothing, as any past the end of the list.
-use Prim.Native.Nat.{ℕ, _≤_}
-use mathlib.Core.Path.{_≡_, sym, _∙_, ap}
+use Prim.Native.Nat.{ℕ}
+use mathlib.Core.Path.{_≡_, sym}
 use native.Mathlib.Omega.{arith}
 use borrow.Author.Needs.{needs}
-use lib.ListN.{length, set}
+use lib.ListN.{length}
 use lib.Seq.{set-out}
 use Rattle.runner.proofs.registers.with_value.Statement.{statement}
 use Rattle.runner.proofs.registers.with_value.Tie as tie
