@@ -1,5 +1,5 @@
--- What a caller of the search needs. `place-same`: the place depends on the slots of the arena alone. `place-sound`: it is a free range of
--- at least the order that is sought. `place-complete`: where there is none, no such range is free.
+-- What a caller of the search needs. `place-sound`: the place is a free range of at least the order that is sought. `place-complete`: where
+-- there is none, no such range is free.
 use mathlib.Core.Path.{_≡_, refl, sym, ap, ap₂, subst, _∙_}
 use mathlib.Core.Bool.{Bool, true, false, cond, not, _&&_, _||_, true≢false}
 use mathlib.Core.Logic.{⊎-elim}
@@ -12,39 +12,12 @@ use Rattle.blocks.specs.declared.Place.{Place}
 use Rattle.blocks.specs.declared.Place.the-variants.{At, Nothing}
 use Rattle.blocks.specs.Placing.{rangeStart, freeRange, maximal, lowest, atOrder, orElse, fromOrder, placeIn}
 use Rattle.blocks.proofs.Booleans.{and-left, and-false-cases, or-right}
-use Rattle.blocks.proofs.Halves.{doubled, sizes, lowest-same}
-use Rattle.blocks.proofs.Runs.{all-same, all-at}
+use Rattle.blocks.proofs.Halves.{doubled, sizes}
+use Rattle.blocks.proofs.Runs.{all-at}
 
 -- range b of order k lies in the arena
 pub range-inside : (t m k b : ℕ) → t ≤ k → k ≤ m → b < 2 ^ (m - k) → b * 2 ^ (k - t) + 2 ^ (k - t) ≤ 2 ^ (m - t)
 range-inside t m k b p q l = omega (arith, sizes t k m p q, mul-le-mul-right (2 ^ (k - t)) l, suc-mul b (2 ^ (k - t)))
-
-module _ (f g : ℕ → Bool) (t from m : ℕ) (h : (i : ℕ) → i < 2 ^ (m - t) → f (from + i) ≡ g (from + i)) where
-  pub free-same : (k b : ℕ) → t ≤ k → k ≤ m → b < 2 ^ (m - k) → freeRange f t from k b ≡ freeRange g t from k b
-  unfolding freeRange rangeStart
-  free-same k b p q l =
-      all-same f g _ _ (λ j s. rw add-assoc (h (b * 2 ^ (k - t) + j) (omega (arith, range-inside t m k b p q l))))
-
-  maximal-same : (k b : ℕ) → t ≤ k → k ≤ m → b < 2 ^ (m - k) → maximal f t from m k b ≡ maximal g t from m k b
-  unfolding maximal
-  maximal-same k b p q l = ⊎-elim
-      (λ e. rw (eq-eqb k m e))
-      (λ s. ap (λ (x : Bool). eqb k m || not x) (free-same (suc k) (b / 2) (omega arith) s (omega (arith, doubled (m - suc k) (m - k) (omega arith)))))
-      (eq-or-lt-of-le q)
-
-  at-same : (k : ℕ) → t ≤ k → k ≤ m → atOrder f t from m k ≡ atOrder g t from m k
-  unfolding atOrder
-  at-same k p q =
-      lowest-same _ _ (rangeStart t from k) _ k 0 0 (2 ^ (m - k)) (λ i l. rw zero-add (ap₂ _&&_ (free-same k i p q l) (maximal-same k i p q l))) (λ i l. refl)
-
-  from-same : (k n : ℕ) → t ≤ k → k + n ≤ suc m → fromOrder f t from m k n ≡ fromOrder g t from m k n
-  unfolding fromOrder
-  from-same k zero p q = refl
-  from-same k (suc n) p q = ap₂ orElse (at-same k p (omega arith)) (from-same (suc k) n (omega arith) (omega arith))
-
-  pub place-same : (e : ℕ) → t ≤ e → e ≤ suc m → placeIn f t from m e ≡ placeIn g t from m e
-  unfolding placeIn
-  place-same e p q = from-same e (suc m - e) p (omega arith)
 
 -- range i of those from number b on passes p, and begins at x
 record Hit (p : ℕ → Bool) (s : ℕ → ℕ) (k b n x j : ℕ) : Type 0 where

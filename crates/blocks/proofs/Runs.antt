@@ -45,10 +45,3 @@ unfolding allFree
 all-append f i zero l = rw (zero-add, add-zero)
 all-append f i (suc n) l = rw (suc-add, add-suc, ← suc-add)
     (ap (_&&_ (f i)) (all-append f (suc i) n l) ∙ sym (and-assoc (f i) _ _))
-
--- what is asked of a run depends on its own slots alone
-pub all-same : (f g : ℕ → Bool) (i n : ℕ) → ((j : ℕ) → j < n → f (i + j) ≡ g (i + j)) → allFree f i n ≡ allFree g i n
-unfolding allFree
-all-same f g i zero h = refl
-all-same f g i (suc n) h =
-    ap₂ _&&_ (rw add-zero at (h 0 (omega arith))) (all-same f g (suc i) n (λ j l. rw (suc-add, ← add-suc) (h (suc j) (omega arith))))

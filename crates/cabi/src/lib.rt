@@ -1,13 +1,15 @@
 // The C interface: every public call under one prefix, with structs by value and slices as pointer and length. What C sees of it
 // stands in include/tulivombe.h.
 use heap::Answer;
+use runner::Ran;
 use takes::Reading;
 use takes::Record;
-use takes::Written;
 ghost use mathlib.Core.Path.{_≡_};
-ghost use mathlib.Core.Bool.{true};
 ghost use Rattle.heap.specs.Heaps.{heapOf, outcome, heapCall, heapFresh, heapCheck};
 ghost use Rattle.heap.specs.declared.Call.the-variants.{Get, Give, Step, Read, Write, Left, Copy, Fill};
+ghost use Rattle.history.specs.Replaying.{replayed, replayOf};
+ghost use Rattle.runner.specs.Runs.{runOf};
+ghost use Rattle.runner.specs.Carrying.{ranTo};
 ghost use Rattle.takes.specs.Reading.{readAt};
 ghost use Rattle.takes.specs.Writing.{writeHead};
 ghost use Rattle.cabi.specs.Flat.{flat, placed, recordOf, storedBy, writeFlat};
@@ -129,6 +131,30 @@ pub extern "C" fn tulivombe_show(arena: &[u8], table: &[u8], p: u32) -> Part
         offset: p - 65536,
         length: left.value,
     }
+}
+
+#[no_mangle]
+pub extern "C" fn tulivombe_run(
+    file: &[u8],
+    arena: &mut [u8],
+    table: &mut [u8],
+    answers: &mut [u8],
+) -> Ran
+    ensures { λ r. ⌜ ranTo r (now (arena .exit)) (now (table .exit)) (now (answers .exit)) ≡ runOf (now (file .entry)) (heapOf (now (arena .entry)) (now (table .entry))) (now (answers .entry)) ⌝ }
+{
+    runner::run(file, arena, table, answers)
+}
+
+#[no_mangle]
+pub extern "C" fn tulivombe_replay(
+    arena: &mut [u8],
+    table: &mut [u8],
+    calls: &[u8],
+    out: &mut [u8],
+) -> u32
+    ensures { λ r. ⌜ replayed r (now (arena .exit)) (now (table .exit)) (now (out .exit)) ≡ replayOf (now (calls .entry)) (heapOf (now (arena .entry)) (now (table .entry))) (now (out .entry)) ⌝ }
+{
+    history::replay(arena, table, calls, out)
 }
 
 fn flattened(r: Record) -> FlatRecord

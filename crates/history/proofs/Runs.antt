@@ -9,7 +9,8 @@ use Rattle.blocks.specs.Orders.{orderOf}
 use Rattle.blocks.proofs.Orders.{order-power}
 use Rattle.heap.specs.Views.{slotOrder}
 use Rattle.heap.specs.Effects.{Outcome}
-use Rattle.heap.specs.Heaps.{Heap, heapView, viewOf, heapCall, heapFresh, freshHeap, outcome}
+use Rattle.heap.specs.Heaps.{Heap, heapView, viewOf, heapCall, heapFresh, freshHeap}
+use Rattle.heap.proofs.Judging.{fresh-heap}
 use Rattle.heap.specs.declared.Answer.{Answer}
 use Rattle.heap.specs.declared.Call.{Call}
 use Rattle.history.specs.Ledgers.{Ledger, ledgerStep, emptyLedger}
@@ -30,11 +31,10 @@ fresh-agree m = record { bytes = refl; size = length-replicate (2 ^ m) 0; table 
 
 -- fresh, where the lengths fit
 pub fresh-is : (m : ℕ) (h : Heap) → 5 ≤ m → m ≤ 16 → length (h .arena) ≡ 2 ^ m → length (h .table) ≡ 2 ^ (m - slotOrder) → heapFresh h ≡ record { answer = accepted 0; state = freshHeap m }
-unfolding heapFresh
 fresh-is m h five top a t =
-    let o : m ≡ orderOf (length (h .arena)) = sym (ap orderOf a ∙ order-power m five top) in
-    let w : viewOf h .wrong-sizes ≡ false = subst (λ (k : ℕ). heapView k h .wrong-sizes ≡ false) o (right-sizes m h five top a t) in
-    rw w (ap₂ (λ (i k : ℕ). outcome (accepted 0) (replicate i 0) (replicate k 0)) a t)
+    let o : orderOf (length (h .arena)) ≡ m = ap orderOf a ∙ order-power m five top in
+    let w : viewOf h .wrong-sizes ≡ false = subst (λ (k : ℕ). heapView k h .wrong-sizes ≡ false) (sym o) (right-sizes m h five top a t) in
+    fresh-heap (h .arena) (h .table) w ∙ ap (λ (k : ℕ). record { answer = accepted 0; state = freshHeap k }) o
 
 pub fresh-made : (m : ℕ) (h : Heap) → 5 ≤ m → m ≤ 16 → length (h .arena) ≡ 2 ^ m → length (h .table) ≡ 2 ^ (m - slotOrder) → heapFresh h .state ≡ freshHeap m
 fresh-made m h five top a t = ap (λ (o : Outcome Heap). o .state) (fresh-is m h five top a t)

@@ -1,0 +1,173 @@
+/* The heap with baggy bounds and the runner of takes, for the device's C and C++ code.
+ *
+ * Link with target/staticlib/libcabi.a, which `rt staticlib cabi` makes for x86-64.
+ *
+ * Lent buffers. The heap owns no memory: each call is lent the arena (a power of two from 32 to 65,536
+ * bytes) and the table (one byte for each 16 bytes of the arena) and keeps neither. A buffer of n bytes
+ * is passed as a pointer and then n. Any length and any content may be passed and is judged, but:
+ *   - the pointer is not null and its n bytes can be read (and written, where it is not const);
+ *   - no two buffers of one call overlap, where one of them is not const;
+ *   - no other thread writes them during the call.
+ *
+ * Pointers. A pointer into the heap is a number: the arena's first byte has the address 65536. With the
+ * top bit set (TULIVOMBE_MARK) it is marked: it lies up to 8 bytes outside its block, and only
+ * tulivombe_step takes it.
+ *
+ * Answers. `number` is 0 or says why the call was refused; a refused call has value 0 and changes
+ * nothing. Where several reasons apply, the lowest number is given.
+ */
+#ifndef TULIVOMBE_H
+#define TULIVOMBE_H
+
+#include <stddef.h>
+#include <stdint.h>
+
+#ifdef __cplusplus
+extern "C" {
+#endif
+
+#define TULIVOMBE_BASE UINT32_C(65536)
+#define TULIVOMBE_MARK UINT32_C(2147483648)
+#define TULIVOMBE_REGISTERS 16
+
+/* What `number` can say. 1 to 13 speak of the input, 20 and up of the heap's state. */
+enum tulivombe_number {
+    TULIVOMBE_OK = 0,
+    TULIVOMBE_VERSION = 1,           /* file empty, or its first byte is not 01 */
+    TULIVOMBE_SIZE = 2,              /* size byte missing, or not 5 to 16 */
+    TULIVOMBE_FILE_TOO_LONG = 3,     /* file longer than 8,192 bytes */
+    TULIVOMBE_RECORD_LENGTH = 4,     /* record length 0, or more than the bytes left */
+    TULIVOMBE_OPERATION = 5,         /* operation not 1 to 8 */
+    TULIVOMBE_OPERATION_LENGTH = 6,  /* length wrong for the operation */
+    TULIVOMBE_REGISTER = 7,          /* register above 15 */
+    TULIVOMBE_LENGTHS = 8,           /* arena or table of a wrong length */
+    TULIVOMBE_ROOM = 9,              /* answer or output slice too short */
+    TULIVOMBE_GET_SIZE = 10,         /* get: n is 0 or above the arena's length */
+    TULIVOMBE_WIDTH = 11,            /* width not 1, 2 or 4 */
+    TULIVOMBE_VALUE_TOO_WIDE = 12,   /* v does not fit w bytes */
+    TULIVOMBE_MARKED = 13,           /* marked pointer in any call but step */
+    TULIVOMBE_DAMAGED = 20,          /* the table stands for no set of blocks */
+    TULIVOMBE_NO_FREE_RANGE = 21,    /* get: no free range of the order */
+    TULIVOMBE_NO_REFERENT = 22,      /* a pointer belongs to no live block */
+    TULIVOMBE_NOT_THE_START = 23,    /* give: not the block's start */
+    TULIVOMBE_BEYOND_REACH = 24,     /* step: more than 8 bytes outside the block */
+    TULIVOMBE_PAST_THE_END = 25      /* read, write: the last byte lies outside the block */
+};
+
+/* A call's answer. */
+typedef struct {
+    uint32_t number;
+    uint32_t value;
+} tulivombe_answer;
+
+/* A part of the lent arena: `length` bytes from arena + `offset`. */
+typedef struct {
+    uint32_t number;
+    uint32_t offset;
+    uint32_t length;
+} tulivombe_part;
+
+/* A run's result. Refused, registers and count are 0. */
+typedef struct {
+    uint32_t number;
+    uint32_t registers[TULIVOMBE_REGISTERS];
+    uint32_t count; /* records carried out */
+} tulivombe_ran;
+
+/* One record of a take. The comment names the operations that have the field; the reader sets the others to
+ * 0, and the writer ignores them. */
+typedef struct {
+    uint8_t operation; /* 1 get, 2 give, 3 step, 4 read, 5 write, 6 left, 7 copy, 8 fill */
+    uint8_t d;         /* register for the value: get, step, read, left, copy, fill */
+    uint8_t a;         /* register of p: all but get */
+    uint8_t b;         /* register of q: copy */
+    uint8_t byte;      /* w: read, write; v: fill */
+    uint32_t word;     /* n: get, copy, fill; i in two's complement: step; v: write */
+} tulivombe_record;
+
+/* What the reader gives. Refused, next is 0 and all fields of the record are 0. */
+typedef struct {
+    uint32_t number;
+    tulivombe_record record;
+    size_t next; /* the place after the record */
+} tulivombe_place;
+
+/* Makes the heap fresh: arena and table all zero. Refused: 8. Value: 0. */
+tulivombe_answer tulivombe_fresh(uint8_t *arena, size_t arena_len, uint8_t *table, size_t table_len);
+
+/* Gets a block of the smallest power of two, from 16 up, that holds n bytes. The bytes of the block past
+ * the first n become 0; the first n keep what they held. Refused: 8, 10, 20, 21. Value: the block's start. */
+tulivombe_answer tulivombe_get(uint8_t *arena, size_t arena_len, uint8_t *table, size_t table_len, uint32_t n);
+
+/* Gives the block that starts at p back. Refused: 8, 13, 20, 22, 23. Value: 0. */
+tulivombe_answer tulivombe_give(const uint8_t *arena, size_t arena_len, uint8_t *table, size_t table_len,
+                                uint32_t p);
+
+/* Steps from p, plain or marked, by i bytes, a signed number in two's complement. Refused: 8, 20, 22, 24.
+ * Value: the sum, marked if it lies up to 8 bytes before or past p's block. */
+tulivombe_answer tulivombe_step(const uint8_t *arena, size_t arena_len, const uint8_t *table, size_t table_len,
+                                uint32_t p, uint32_t i);
+
+/* Reads w bytes (1, 2 or 4) at p. Refused: 8, 11, 13, 20, 22, 25. Value: the bytes as a big-endian number. */
+tulivombe_answer tulivombe_read(const uint8_t *arena, size_t arena_len, const uint8_t *table, size_t table_len,
+                                uint32_t p, uint8_t w);
+
+/* Writes v as w bytes (1, 2 or 4), big-endian, at p. Refused: 8, 11, 12, 13, 20, 22, 25. Value: 0. */
+tulivombe_answer tulivombe_write(uint8_t *arena, size_t arena_len, const uint8_t *table, size_t table_len,
+                                 uint32_t p, uint8_t w, uint32_t v);
+
+/* Counts the bytes from p to the end of its block. Refused: 8, 13, 20, 22. Value: the count. */
+tulivombe_answer tulivombe_left(const uint8_t *arena, size_t arena_len, const uint8_t *table, size_t table_len,
+                                uint32_t p);
+
+/* Copies up to n bytes from q to p, cut short at the end of either block, in rising order, each byte read
+ * after the one before is stored. Refused: 8, 13, 20, 22. Value: the count of bytes copied. */
+tulivombe_answer tulivombe_copy(uint8_t *arena, size_t arena_len, const uint8_t *table, size_t table_len,
+                                uint32_t p, uint32_t q, uint32_t n);
+
+/* Sets up to n bytes from p to v, cut short at the end of the block. Refused: 8, 13, 20, 22. Value: the
+ * count of bytes set. */
+tulivombe_answer tulivombe_fill(uint8_t *arena, size_t arena_len, const uint8_t *table, size_t table_len,
+                                uint32_t p, uint8_t v, uint32_t n);
+
+/* Checks whether the sum of h, a plain pointer, and i, signed in two's complement, lies in h's block.
+ * Refused: 8, 13, 20, 22. Value: 1 or 0. */
+tulivombe_answer tulivombe_check(const uint8_t *arena, size_t arena_len, const uint8_t *table, size_t table_len,
+                                 uint32_t h, uint32_t i);
+
+/* Shows the bytes from p to the end of its block, without a copy: the part lies in the lent arena. Refused:
+ * 8, 13, 20, 22, as left is, and then the part is empty. */
+tulivombe_part tulivombe_show(const uint8_t *arena, size_t arena_len, const uint8_t *table, size_t table_len,
+                              uint32_t p);
+
+/* Runs a take on a heap that it first makes fresh. The arena's length must be the file's size and the answer
+ * slice hold 5 bytes a record: number, then value big-endian; its bytes past them stay. The file is
+ * judged whole before any call; a refused record ends nothing. Refused: 1 to 9, and then nothing is changed. */
+tulivombe_ran tulivombe_run(const uint8_t *file, size_t file_len, uint8_t *arena, size_t arena_len,
+                            uint8_t *table, size_t table_len, uint8_t *answers, size_t answers_len);
+
+/* Makes a list of calls on a heap that it first makes fresh, and stores 5 bytes a call in `out`, as a run
+ * does; its bytes past them stay. A call is 14 bytes: the operation as in a record, a byte x, and three numbers
+ * a, b, c in 4 bytes each, big-endian:
+ *     1 get a, 2 give a, 3 step a b, 4 read a x, 5 write a x b, 6 left a, 7 copy a b c, 8 fill a x c
+ * with the arguments in the order of the calls above; what a call does not name is not looked at.
+ * Refused: 4 (no whole number of calls), 5, 8, 9, and then nothing is changed. Returns the number. */
+uint32_t tulivombe_replay(uint8_t *arena, size_t arena_len, uint8_t *table, size_t table_len,
+                          const uint8_t *calls, size_t calls_len, uint8_t *out, size_t out_len);
+
+/* Reads the record at a place of a file. The first record is at 2; any place may be asked for. The head and the
+ * rest of the file are not judged. Refused: 4 to 7. */
+tulivombe_place tulivombe_read_record(const uint8_t *file, size_t file_len, size_t at);
+
+/* Stores the two head bytes of a file for an arena of 2^m bytes. Refused: 2, 9. Value: 2. */
+tulivombe_answer tulivombe_write_head(uint8_t *out, size_t out_len, uint32_t m);
+
+/* Stores one record; `out` starts where it shall stand, and bytes past it stay. Fields are stored as they
+ * are; only the operation and the registers are judged. Refused: 5, 7, 9. Value: the count of bytes. */
+tulivombe_answer tulivombe_write_record(uint8_t *out, size_t out_len, tulivombe_record record);
+
+#ifdef __cplusplus
+}
+#endif
+
+#endif

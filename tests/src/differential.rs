@@ -1,0 +1,292 @@
+//! Two implementations on the same random input: answers, buffers and guard bytes must be equal.
+
+use crate::call::Call;
+use crate::lent::Lent;
+use crate::plain::takes::Record;
+use crate::random::{self, Rng};
+use crate::subject::Subject;
+
+/// How often each number was the answer.
+#[derive(Default)]
+pub struct Tally([u32; 32]);
+
+impl Tally {
+    fn count(&mut self, number: u32) {
+        self.0[number as usize] += 1;
+    }
+
+    pub fn total(&self) -> u32 {
+        self.0.iter().sum()
+    }
+
+    /// The numbers that were met.
+    pub fn met(&self) -> Vec<u32> {
+        (0..32).filter(|&number| self.0[number as usize] > 0).collect()
+    }
+}
+
+/// Both heaps of a case.
+struct Twins {
+    arenas: [Lent; 2],
+    tables: [Lent; 2],
+}
+
+impl Twins {
+    fn new(rng: &mut Rng, arena: &[u8], table: &[u8]) -> Twins {
+        let arena = Lent::new(rng, arena);
+        let table = Lent::new(rng, table);
+        Twins { arenas: [arena.clone(), arena], tables: [table.clone(), table] }
+    }
+
+    fn compare(&self, what: &str) {
+        same_buffer("arena", &self.arenas, what);
+        same_buffer("table", &self.tables, what);
+    }
+}
+
+fn same_buffer(name: &str, pair: &[Lent; 2], what: &str) {
+    if let Some(at) = pair[0].difference(&pair[1]) {
+        panic!("{what}: the {name}s differ at {at} of {} bytes", pair[0].bytes().len());
+    }
+}
+
+/// Buffers of an arena of order m; one case in eight has a wrong length.
+fn buffers(rng: &mut Rng, m: u32) -> (Vec<u8>, Vec<u8>) {
+    let mut arena = if rng.once_in(4) { vec![0; 1 << m] } else { rng.bytes(1 << m) };
+    let mut table = random::any_table(rng, m);
+    if rng.once_in(8) {
+        let len = match rng.below(6) {
+            0 => arena.len() - 1,
+            1 => arena.len() + rng.within(1, 16) as usize,
+            2 => arena.len() / 2,
+            3 => rng.below(70) as usize,
+            4 => rng.pick(&[0, 1, 16, 131_072]),
+            _ => arena.len(),
+        };
+        arena.resize(len, 7);
+        let len = match rng.below(4) {
+            0 => table.len() - 1,
+            1 => table.len() + 1,
+            2 => arena.len() / 16,
+            _ => table.len(),
+        };
+        table.resize(len, 0);
+    }
+    (arena, table)
+}
+
+/// Random lists of direct calls, fresh, check and show on any buffers.
+pub fn calls<A: Subject, B: Subject>(rng: &mut Rng, lists: u32, largest: u32) -> Tally {
+    let mut tally = Tally::default();
+    for list in 0..lists {
+        let m = rng.arena_order(largest);
+        let (arena, table) = buffers(rng, m);
+        let mut heaps = Twins::new(rng, &arena, &table);
+        let mut known = Vec::new();
+        let length = if m > 10 { 8 } else { rng.within(1, 40) };
+        for index in 0..length {
+            let what = format!("{} and {}, list {list}, call {index}, m = {m}", A::NAME, B::NAME);
+            tally.count(one_call::<A, B>(rng, &mut heaps, m, &mut known, &what));
+            heaps.compare(&what);
+        }
+    }
+    tally
+}
+
+/// Gives the answer's number.
+fn one_call<A: Subject, B: Subject>(rng: &mut Rng, heaps: &mut Twins, m: u32, known: &mut Vec<u32>, what: &str) -> u32 {
+    let Twins { arenas: [a0, a1], tables: [t0, t1] } = heaps;
+    match rng.below(16) {
+        0 if rng.once_in(3) => {
+            let answers = [A::fresh(a0.bytes_mut(), t0.bytes_mut()), B::fresh(a1.bytes_mut(), t1.bytes_mut())];
+            assert_eq!(answers[0], answers[1], "{what}: fresh");
+            answers[0].number
+        }
+        1 if rng.once_in(4) && !t0.bytes().is_empty() => {
+            // a stranger writes one entry
+            let at = rng.below(t0.bytes().len() as u32) as usize;
+            let entry = rng.pick(&[0, 1, 4, 5, 6, 16, 17, 132]);
+            t0.bytes_mut()[at] = entry;
+            t1.bytes_mut()[at] = entry;
+            0
+        }
+        2 | 3 => {
+            let h = random::pointer(rng, t0.bytes(), known);
+            let i = random::distance(rng, m);
+            let answers = [A::check(a0.bytes(), t0.bytes(), h, i), B::check(a1.bytes(), t1.bytes(), h, i)];
+            assert_eq!(answers[0], answers[1], "{what}: check {h} {i}");
+            answers[0].number
+        }
+        4 => {
+            let p = random::pointer(rng, t0.bytes(), known);
+            let parts = [A::show(a0.bytes(), t0.bytes(), p), B::show(a1.bytes(), t1.bytes(), p)];
+            assert_eq!(parts[0], parts[1], "{what}: show {p}");
+            parts[0].number
+        }
+        _ => {
+            let call = random::call(rng, t0.bytes(), m, known);
+            let first = call.make::<A>(a0.bytes_mut(), t0.bytes_mut());
+            let second = call.make::<B>(a1.bytes_mut(), t1.bytes_mut());
+            assert_eq!(first, second, "{what}: {call:?}");
+            if let (Call::Get { .. } | Call::Step { .. }, 0) = (call, first.number) {
+                known.push(first.value);
+            }
+            first.number
+        }
+    }
+}
+
+/// Random and broken files, run on buffers that fit or not. Gives the runs' numbers and the records'.
+pub fn runs<A: Subject, B: Subject>(rng: &mut Rng, files: u32, largest: u32) -> (Tally, Tally) {
+    let mut tally = Tally::default();
+    let mut records = Tally::default();
+    for index in 0..files {
+        let m = rng.arena_order(largest);
+        let most = rng.pick(&[0, 4, 30, 120]);
+        let file = random::file(rng, m, most);
+        let (arena, table) = buffers(rng, m);
+        let mut heaps = Twins::new(rng, &arena, &table);
+        let needed = 5 * crate::plain::takes::judge(&file).map_or(most as usize, |(_, count)| count);
+        let room = match rng.below(8) {
+            0 => needed.saturating_sub(rng.within(1, 5) as usize),
+            1 => needed + rng.within(1, 20) as usize,
+            _ => needed,
+        };
+        let content = rng.bytes(room);
+        let out = Lent::new(rng, &content);
+        let mut answers = [out.clone(), out];
+        let lent = Lent::new(rng, &file);
+        let before = lent.clone();
+        let Twins { arenas: [a0, a1], tables: [t0, t1] } = &mut heaps;
+        let [o0, o1] = &mut answers;
+        let first = A::run(lent.bytes(), a0.bytes_mut(), t0.bytes_mut(), o0.bytes_mut());
+        let second = B::run(lent.bytes(), a1.bytes_mut(), t1.bytes_mut(), o1.bytes_mut());
+        let what = format!("{} and {}, run {index}, file {file:02x?}", A::NAME, B::NAME);
+        assert_eq!(first, second, "{what}");
+        heaps.compare(&what);
+        same_buffer("answer slice", &answers, &what);
+        assert_eq!(lent.difference(&before), None, "{what}: the file changed");
+        tally.count(first.number);
+        for answer in answers[0].bytes().chunks_exact(5).take(first.count as usize) {
+            records.count(u32::from(answer[0]));
+        }
+    }
+    (tally, records)
+}
+
+/// Random lists of calls as bytes, replayed on buffers that fit or not.
+pub fn replays<A: Subject, B: Subject>(rng: &mut Rng, lists: u32, largest: u32) -> Tally {
+    let mut tally = Tally::default();
+    for index in 0..lists {
+        let m = rng.arena_order(largest);
+        let (arena, table) = buffers(rng, m);
+        let layout = random::sound_table(rng, m);
+        let mut list = Vec::new();
+        for _ in 0..rng.within(0, 30) {
+            list.extend_from_slice(&random::call(rng, &layout, m, &[]).encode());
+        }
+        if rng.once_in(6) && !list.is_empty() {
+            let at = rng.below(list.len() as u32) as usize;
+            list[at / 14 * 14] = rng.pick(&[0, 1, 8, 9, 255]);
+        }
+        if rng.once_in(8) {
+            list.resize(list.len() + rng.within(1, 13) as usize, 1);
+        }
+        let room = (list.len() / 14 * 5 + rng.below(8) as usize).saturating_sub(rng.pick(&[0, 0, 0, 3]));
+        let content = rng.bytes(room);
+        let out = Lent::new(rng, &content);
+        let mut outs = [out.clone(), out];
+        let mut heaps = Twins::new(rng, &arena, &table);
+        let calls = Lent::new(rng, &list);
+        let Twins { arenas: [a0, a1], tables: [t0, t1] } = &mut heaps;
+        let [o0, o1] = &mut outs;
+        let first = A::replay(a0.bytes_mut(), t0.bytes_mut(), calls.bytes(), o0.bytes_mut());
+        let second = B::replay(a1.bytes_mut(), t1.bytes_mut(), calls.bytes(), o1.bytes_mut());
+        let what = format!("{} and {}, replay {index}, calls {list:02x?}", A::NAME, B::NAME);
+        assert_eq!(first, second, "{what}");
+        heaps.compare(&what);
+        same_buffer("output", &outs, &what);
+        tally.count(first);
+    }
+    tally
+}
+
+/// The reader on random bytes and on files, at any place.
+pub fn reader<A: Subject, B: Subject>(rng: &mut Rng, files: u32) {
+    for _ in 0..files {
+        let m = rng.arena_order(16);
+        let file = if rng.once_in(3) {
+            let len = rng.below(40) as usize;
+            (0..len).map(|_| if rng.once_in(4) { rng.byte() } else { rng.below(18) as u8 }).collect()
+        } else {
+            random::file(rng, m, 6)
+        };
+        let lent = Lent::new(rng, &file);
+        let far = [usize::MAX, usize::MAX - 1, 1 << 32, (1 << 32) + 2, 1 << 63];
+        for at in (0..file.len() + 3).chain(far) {
+            let places = [A::read_record(lent.bytes(), at), B::read_record(lent.bytes(), at)];
+            assert_eq!(places[0], places[1], "{} and {}: reader at {at} of {file:02x?}", A::NAME, B::NAME);
+        }
+    }
+}
+
+/// The writer on random records, good registers or not, and slices that are long enough or not.
+pub fn writer<A: Subject, B: Subject>(rng: &mut Rng, records: u32) {
+    for _ in 0..records {
+        let record = spoiled(rng);
+        let room = rng.below(14) as usize;
+        let content = rng.bytes(room);
+        let out = Lent::new(rng, &content);
+        let mut outs = [out.clone(), out];
+        let m = if rng.once_in(4) { rng.pick(&[256, 261, 266, 65_541, u32::MAX]) } else { rng.below(20) };
+        let [o0, o1] = &mut outs;
+        let (answers, what) = if rng.once_in(8) {
+            ([A::write_head(o0.bytes_mut(), m), B::write_head(o1.bytes_mut(), m)], format!("head {m}"))
+        } else {
+            let answers = [A::write_record(o0.bytes_mut(), record), B::write_record(o1.bytes_mut(), record)];
+            (answers, format!("{record:?}"))
+        };
+        assert_eq!(answers[0], answers[1], "{} and {}: writer, {what}, room {room}", A::NAME, B::NAME);
+        same_buffer("output", &outs, &what);
+    }
+}
+
+/// A record with any register bytes, width and values.
+fn spoiled(rng: &mut Rng) -> Record {
+    let mut register = || if rng.once_in(6) { rng.pick(&[16, 17, 128, 255]) } else { rng.below(16) as u8 };
+    let (d, a, b) = (register(), register(), register());
+    match random::record(rng, 8, 16) {
+        Record::Get { n, .. } => Record::Get { d, n },
+        Record::Give { .. } => Record::Give { a },
+        Record::Step { i, .. } => Record::Step { d, a, i },
+        Record::Read { w, .. } => Record::Read { d, a, w },
+        Record::Write { w, v, .. } => Record::Write { a, w, v },
+        Record::Left { .. } => Record::Left { d, a },
+        Record::Copy { n, .. } => Record::Copy { d, a, b, n },
+        Record::Fill { v, n, .. } => Record::Fill { d, a, v, n },
+    }
+}
+
+/// Records written after a head read back as themselves, and an accepted file writes back as its bytes.
+pub fn round_trips<S: Subject>(rng: &mut Rng, files: u32) {
+    for _ in 0..files {
+        let m = rng.arena_order(16);
+        let file = random::file(rng, m, 40);
+        let Ok((_, count)) = crate::plain::takes::judge(&file) else {
+            continue;
+        };
+        let mut out = vec![0xA5; file.len() + 4];
+        let mut to = S::write_head(&mut out, u32::from(file[1])).value as usize;
+        let mut at = 2;
+        for _ in 0..count {
+            let (record, next) = S::read_record(&file, at).expect("the file was accepted");
+            at = next;
+            let answer = S::write_record(&mut out[to..], record);
+            assert_eq!(answer.number, 0, "{}: {record:?}", S::NAME);
+            to += answer.value as usize;
+        }
+        assert_eq!((at, to), (file.len(), file.len()), "{}: {file:02x?}", S::NAME);
+        assert_eq!(out[..to], file, "{}", S::NAME);
+        assert_eq!(out[to..], [0xA5; 4], "{}", S::NAME);
+    }
+}

@@ -1,0 +1,218 @@
+//! The ledger of document 01, and the definitions on tables that it does without. Slow and literal: what
+//! `plain` computes in one pass is written here as the paper says it.
+
+use crate::call::Call;
+use crate::subject::Answer;
+
+const BASE: i64 = 65_536;
+const MARK: u32 = 2_147_483_648;
+
+/// A block by its first address and order.
+#[derive(Clone, Copy, Debug, PartialEq, Eq, PartialOrd, Ord)]
+pub struct Pair {
+    pub start: i64,
+    pub order: u32,
+}
+
+impl Pair {
+    pub fn size(self) -> i64 {
+        2i64.pow(self.order)
+    }
+
+    pub fn end(self) -> i64 {
+        self.start + self.size() - 1
+    }
+
+    pub fn holds(self, address: i64) -> bool {
+        self.start <= address && address <= self.end()
+    }
+
+    pub fn shares_a_byte(self, other: Pair) -> bool {
+        self.start <= other.end() && other.start <= self.end()
+    }
+}
+
+/// The order that a get of n bytes needs.
+pub fn order_needed(n: u32) -> u32 {
+    (4..).find(|&e| i64::from(n) <= 2i64.pow(e)).expect("some power is large enough")
+}
+
+/// All aligned ranges of order k in an arena of order m, from the left.
+pub fn ranges(m: u32, k: u32) -> impl Iterator<Item = Pair> {
+    (0..2i64.pow(m - k)).map(move |j| Pair { start: BASE + j * 2i64.pow(k), order: k })
+}
+
+/// The address that a pointer's home is sought at.
+pub fn sought(p: u32) -> i64 {
+    let address = i64::from(p % MARK);
+    if p < MARK {
+        address
+    } else if address % 16 < 8 {
+        address - 16
+    } else {
+        address + 16
+    }
+}
+
+/// Whether a table of an arena of order m is damaged, slot by slot.
+pub fn damaged(table: &[u8], m: u32) -> bool {
+    (0..table.len()).any(|slot| {
+        let entry = u32::from(table[slot]);
+        if entry == 0 {
+            return false;
+        }
+        if entry < 4 || entry > m {
+            return true;
+        }
+        let slots = 2usize.pow(entry - 4);
+        let first = slot - slot % slots;
+        (first..first + slots).any(|other| table[other] != table[slot])
+    })
+}
+
+#[derive(Clone, Debug)]
+pub struct Ledger {
+    pub m: u32,
+    pub pairs: Vec<Pair>,
+    pub bytes: Vec<u8>,
+}
+
+impl Ledger {
+    pub fn new(m: u32) -> Ledger {
+        Ledger { m, pairs: Vec::new(), bytes: vec![0; 2usize.pow(m)] }
+    }
+
+    pub fn home(&self, p: u32) -> Option<Pair> {
+        self.pairs.iter().copied().find(|pair| pair.holds(sought(p)))
+    }
+
+    /// For each slot, whether no pair's range holds it.
+    fn free_slots(&self) -> Vec<bool> {
+        self.table().iter().map(|&entry| entry == 0).collect()
+    }
+
+    /// Where a block of order e is put: orders upward, ranges from the left.
+    pub fn placing(&self, e: u32) -> Option<i64> {
+        let slots = self.free_slots();
+        let free = |range: Pair| {
+            let first = (range.start - BASE) / 16;
+            (first..first + range.size() / 16).all(|slot| slots[slot as usize])
+        };
+        let maximal = |range: Pair| {
+            let twice = 2 * range.size();
+            let round = Pair { start: BASE + (range.start - BASE) / twice * twice, order: range.order + 1 };
+            range.order == self.m || !free(round)
+        };
+        let range = (e..=self.m).flat_map(|k| ranges(self.m, k)).find(|&range| free(range) && maximal(range));
+        range.map(|range| range.start)
+    }
+
+    /// The one table of the pairs.
+    pub fn table(&self) -> Vec<u8> {
+        let mut table = vec![0; 2usize.pow(self.m - 4)];
+        for pair in &self.pairs {
+            let first = ((pair.start - BASE) / 16) as usize;
+            table[first..first + (pair.size() / 16) as usize].fill(pair.order as u8);
+        }
+        table
+    }
+
+    /// Judges and carries out one call.
+    pub fn feed(&mut self, call: Call) -> Answer {
+        let refusals = self.refusals(call);
+        if let Some(&(number, _)) = refusals.iter().find(|(_, applies)| *applies) {
+            return Answer { number, value: 0 };
+        }
+        Answer { number: 0, value: self.accept(call) }
+    }
+
+    /// The numbers that can refuse a call, in judging order, each with whether it applies.
+    pub fn refusals(&self, call: Call) -> Vec<(u32, bool)> {
+        let marked = |p: u32| p >= MARK;
+        let lost = |p: u32| self.home(p).is_none();
+        let bad_width = |w: u8| ![1, 2, 4].contains(&w);
+        let too_wide = |w: u8, v: u32| i64::from(v) >= 256i64.pow(u32::from(w.min(4)));
+        let past = |p: u32, w: u8| self.home(p).is_some_and(|home| i64::from(p) + i64::from(w) - 1 > home.end());
+        match call {
+            Call::Get { n } => {
+                let bad = n == 0 || i64::from(n) > 2i64.pow(self.m);
+                vec![(10, bad), (21, !bad && self.placing(order_needed(n)).is_none())]
+            }
+            Call::Give { p } => {
+                let inside = self.home(p).is_some_and(|home| home.start != i64::from(p));
+                vec![(13, marked(p)), (22, lost(p)), (23, inside)]
+            }
+            Call::Step { p, i } => {
+                let r = i64::from(p % MARK) + i64::from(i as i32);
+                let beyond = self.home(p).is_some_and(|home| r < home.start - 8 || r > home.end() + 8);
+                vec![(22, lost(p)), (24, beyond)]
+            }
+            Call::Read { p, w } => vec![(11, bad_width(w)), (13, marked(p)), (22, lost(p)), (25, past(p, w))],
+            Call::Write { p, w, v } => {
+                vec![(11, bad_width(w)), (12, too_wide(w, v)), (13, marked(p)), (22, lost(p)), (25, past(p, w))]
+            }
+            Call::Left { p } | Call::Fill { p, .. } => vec![(13, marked(p)), (22, lost(p))],
+            Call::Copy { p, q, .. } => vec![(13, marked(p) || marked(q)), (22, lost(p) || lost(q))],
+        }
+    }
+
+    fn accept(&mut self, call: Call) -> u32 {
+        match call {
+            Call::Get { n } => {
+                let order = order_needed(n);
+                let start = self.placing(order).expect("not refused 21");
+                let pair = Pair { start, order };
+                for address in start + i64::from(n)..=pair.end() {
+                    *self.byte(address) = 0;
+                }
+                self.pairs.push(pair);
+                start as u32
+            }
+            Call::Give { p } => {
+                self.pairs.retain(|pair| pair.start != i64::from(p));
+                0
+            }
+            Call::Step { p, i } => {
+                let r = i64::from(p % MARK) + i64::from(i as i32);
+                if self.home(p).expect("not refused 22").holds(r) {
+                    r as u32
+                } else {
+                    r as u32 + MARK
+                }
+            }
+            Call::Read { p, w } => {
+                (0..i64::from(w)).fold(0, |value, k| value * 256 + u32::from(*self.byte(i64::from(p) + k)))
+            }
+            Call::Write { p, w, v } => {
+                for k in 0..u32::from(w) {
+                    let digit = v / 256u32.pow(u32::from(w) - 1 - k) % 256;
+                    *self.byte(i64::from(p) + i64::from(k)) = digit as u8;
+                }
+                0
+            }
+            Call::Left { p } => self.left(p) as u32,
+            Call::Copy { p, q, n } => {
+                let count = i64::from(n).min(self.left(p)).min(self.left(q));
+                for k in 0..count {
+                    *self.byte(i64::from(p) + k) = *self.byte(i64::from(q) + k);
+                }
+                count as u32
+            }
+            Call::Fill { p, v, n } => {
+                let count = i64::from(n).min(self.left(p));
+                for k in 0..count {
+                    *self.byte(i64::from(p) + k) = v;
+                }
+                count as u32
+            }
+        }
+    }
+
+    fn left(&self, p: u32) -> i64 {
+        self.home(p).expect("not refused 22").end() - i64::from(p) + 1
+    }
+
+    fn byte(&mut self, address: i64) -> &mut u8 {
+        &mut self.bytes[(address - BASE) as usize]
+    }
+}

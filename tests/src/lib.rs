@@ -1,0 +1,15 @@
+//! Document 01 seen from outside: a plain Rust implementation, the ledger, and what the tests and
+//! benchmarks need to hold the proved library against them.
+
+pub mod call;
+pub mod differential;
+pub mod history;
+pub mod ledger;
+pub mod lent;
+#[cfg(feature = "library")]
+pub mod library;
+pub mod literal;
+pub mod plain;
+pub mod random;
+pub mod subject;
+pub mod vectors;

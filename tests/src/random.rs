@@ -1,0 +1,300 @@
+//! A small generator of random numbers, and of the calls, tables and files that the tests use.
+
+use crate::call::Call;
+use crate::plain::heap::{BASE, MARK};
+use crate::plain::takes::{self, Record};
+
+/// xorshift64*.
+#[derive(Clone)]
+pub struct Rng(u64);
+
+impl Rng {
+    pub fn new(seed: u64) -> Rng {
+        // The state must not be 0; nearby seeds are spread apart.
+        let mixed = (seed ^ 0x9E37_79B9_7F4A_7C15).wrapping_mul(0xBF58_476D_1CE4_E5B9);
+        Rng(mixed ^ mixed >> 31 | 1)
+    }
+
+    /// The seed of environment variable TULIVOMBE_SEED, or one of the clock, printed so that a failure can
+    /// be had again.
+    pub fn seeded(test: &str) -> Rng {
+        let seed = match std::env::var("TULIVOMBE_SEED") {
+            Ok(text) => text.trim().parse().expect("TULIVOMBE_SEED is a number"),
+            Err(_) => {
+                let now = std::time::SystemTime::now().duration_since(std::time::UNIX_EPOCH);
+                now.expect("the clock stands after 1970").as_nanos() as u64 % 1_000_000_007
+            }
+        };
+        println!("{test}: TULIVOMBE_SEED={seed}");
+        Rng::new(seed)
+    }
+
+    pub fn draw(&mut self) -> u64 {
+        self.0 ^= self.0 >> 12;
+        self.0 ^= self.0 << 25;
+        self.0 ^= self.0 >> 27;
+        self.0.wrapping_mul(0x2545_F491_4F6C_DD1D)
+    }
+
+    pub fn word(&mut self) -> u32 {
+        (self.draw() >> 32) as u32
+    }
+
+    pub fn byte(&mut self) -> u8 {
+        (self.draw() >> 56) as u8
+    }
+
+    /// A number below n, which is not 0.
+    pub fn below(&mut self, n: u32) -> u32 {
+        ((u64::from(self.word()) * u64::from(n)) >> 32) as u32
+    }
+
+    /// A number from `low` to `high`.
+    pub fn within(&mut self, low: u32, high: u32) -> u32 {
+        low + self.below(high - low + 1)
+    }
+
+    /// True once in n.
+    pub fn once_in(&mut self, n: u32) -> bool {
+        self.below(n) == 0
+    }
+
+    pub fn pick<T: Copy>(&mut self, from: &[T]) -> T {
+        from[self.below(from.len() as u32) as usize]
+    }
+
+    pub fn bytes(&mut self, len: usize) -> Vec<u8> {
+        (0..len).map(|_| self.byte()).collect()
+    }
+
+    /// An order of the arena up to `largest`, small ones more often.
+    pub fn arena_order(&mut self, largest: u32) -> u32 {
+        let order = match self.below(20) {
+            0 => 16,
+            1 => self.within(11, 16),
+            2..=6 => self.within(8, 10),
+            _ => self.within(5, 7),
+        };
+        order.min(largest)
+    }
+}
+
+/// An undamaged table of an arena of order m, with blocks of all orders.
+pub fn sound_table(rng: &mut Rng, m: u32) -> Vec<u8> {
+    let mut table = vec![0; 1 << (m - 4)];
+    let density = rng.within(1, 4);
+    settle(rng, &mut table, m, density);
+    table
+}
+
+fn settle(rng: &mut Rng, part: &mut [u8], order: u32, density: u32) {
+    match rng.below(6) {
+        0 if density > 1 => part.fill(order as u8),
+        1 if density < 4 => {}
+        _ if order == 4 => {
+            if rng.below(5) < density {
+                part[0] = 4;
+            }
+        }
+        _ => {
+            let (low, high) = part.split_at_mut(part.len() / 2);
+            settle(rng, low, order - 1, density);
+            settle(rng, high, order - 1, density);
+        }
+    }
+}
+
+/// A table for an arena of order m: fresh, sound, sound with some entries changed, or any bytes.
+pub fn any_table(rng: &mut Rng, m: u32) -> Vec<u8> {
+    match rng.below(8) {
+        0 => vec![0; 1 << (m - 4)],
+        1..=4 => sound_table(rng, m),
+        5 | 6 => {
+            let mut table = sound_table(rng, m);
+            for _ in 0..rng.within(1, 3) {
+                let at = rng.below(table.len() as u32) as usize;
+                table[at] = damage(rng, m);
+            }
+            table
+        }
+        _ => (0..1 << (m - 4)).map(|_| damage(rng, m)).collect(),
+    }
+}
+
+fn damage(rng: &mut Rng, m: u32) -> u8 {
+    match rng.below(4) {
+        0 => rng.byte(),
+        1 => rng.pick(&[0, 1, 3, 4, 5, 16, 17, 128, 132, 255]),
+        _ => rng.within(4, m + 1) as u8,
+    }
+}
+
+/// A pointer that is likely to mean something on this table, or not at all.
+pub fn pointer(rng: &mut Rng, table: &[u8], known: &[u32]) -> u32 {
+    let plain = match rng.below(12) {
+        0 => return rng.word(),
+        1 => rng.pick(&[0, 7, 8, 15, 16, BASE - 16, BASE - 9, BASE - 8, BASE - 1, MARK - 1, MARK - 16, MARK - 8]),
+        2 if !known.is_empty() => return rng.pick(known),
+        3 | 4 => BASE.wrapping_sub(24) + rng.below(16 * table.len() as u32 + 48),
+        _ => near_a_block(rng, table),
+    };
+    if rng.below(10) < 3 {
+        plain | MARK
+    } else {
+        plain
+    }
+}
+
+fn near_a_block(rng: &mut Rng, table: &[u8]) -> u32 {
+    let slots = table.len().max(1) as u32;
+    let mut slot = rng.below(slots);
+    for _ in 0..8 {
+        if table.get(slot as usize).is_some_and(|&entry| entry != 0) {
+            break;
+        }
+        slot = rng.below(slots);
+    }
+    let order = u32::from(table.get(slot as usize).copied().unwrap_or(4)).clamp(4, 16);
+    let size = 1 << order;
+    let start = BASE + (16 * slot / size * size);
+    match rng.below(8) {
+        0..=2 => start,
+        3 => start + rng.below(size),
+        4 => start + size - rng.within(1, 4),
+        5 => start.wrapping_sub(rng.within(1, 10)),
+        6 => start + size - 1 + rng.within(1, 10),
+        _ => start + rng.below(size.min(40)),
+    }
+}
+
+/// A byte count: small ones, powers of two and their neighbours, and any.
+pub fn amount(rng: &mut Rng, m: u32) -> u32 {
+    match rng.below(8) {
+        0 => rng.pick(&[0, 1, 15, 16, 17, 31, 32, 33]),
+        1 => rng.word(),
+        2 | 3 => (1 << rng.within(0, m + 1)) + rng.below(3) - 1,
+        4 => rng.below((1 << m) + 2),
+        _ => rng.within(1, 40),
+    }
+}
+
+/// A signed step, in two's complement.
+pub fn distance(rng: &mut Rng, m: u32) -> u32 {
+    let small = match rng.below(8) {
+        0 => return rng.word(),
+        1 => return rng.pick(&[0, 1 << 31, (1 << 31) - 1, u32::MAX, BASE, BASE.wrapping_neg()]),
+        2 => 1 << rng.within(0, m),
+        3 => rng.below(1 << m),
+        4 => (1 << rng.within(4, m)) + rng.within(0, 9),
+        _ => rng.below(25),
+    };
+    if rng.once_in(2) {
+        small.wrapping_neg()
+    } else {
+        small
+    }
+}
+
+fn width(rng: &mut Rng) -> u8 {
+    match rng.below(10) {
+        0 => rng.pick(&[0, 3, 5, 8, 255]),
+        1 => rng.byte(),
+        _ => rng.pick(&[1, 2, 4]),
+    }
+}
+
+fn stored(rng: &mut Rng, w: u8) -> u32 {
+    match rng.below(5) {
+        0 => rng.pick(&[0, 255, 256, 65_535, 65_536, u32::MAX]),
+        1 => rng.word(),
+        _ => rng.word() >> 32u32.saturating_sub(8 * u32::from(w)).min(31),
+    }
+}
+
+/// A call on a heap with this table; `known` are values that earlier calls gave.
+pub fn call(rng: &mut Rng, table: &[u8], m: u32, known: &[u32]) -> Call {
+    match rng.below(11) {
+        0..=2 => Call::Get { n: amount(rng, m) },
+        3 => Call::Give { p: pointer(rng, table, known) },
+        4 | 5 => Call::Step { p: pointer(rng, table, known), i: distance(rng, m) },
+        6 => Call::Read { p: pointer(rng, table, known), w: width(rng) },
+        7 => {
+            let w = width(rng);
+            Call::Write { p: pointer(rng, table, known), w, v: stored(rng, w) }
+        }
+        8 => Call::Left { p: pointer(rng, table, known) },
+        9 => {
+            let p = pointer(rng, table, known);
+            let q = if rng.once_in(3) { p.wrapping_add(distance(rng, m)) } else { pointer(rng, table, known) };
+            Call::Copy { p, q, n: amount(rng, m) }
+        }
+        _ => Call::Fill { p: pointer(rng, table, known), v: rng.byte(), n: amount(rng, m) },
+    }
+}
+
+/// A record whose registers are below `registers`; few of them make takes that work on few blocks.
+pub fn record(rng: &mut Rng, m: u32, registers: u32) -> Record {
+    let d = rng.below(registers) as u8;
+    let a = rng.below(registers) as u8;
+    let b = rng.below(registers) as u8;
+    match rng.below(10) {
+        0..=2 => Record::Get { d, n: amount(rng, m) },
+        3 => Record::Give { a },
+        4 => Record::Step { d, a, i: distance(rng, m) },
+        5 => Record::Read { d: if rng.once_in(3) { a } else { 15 }, a, w: width(rng) },
+        6 => {
+            let w = width(rng);
+            Record::Write { a, w, v: stored(rng, w) }
+        }
+        7 => Record::Left { d: if rng.once_in(3) { d } else { 14 }, a },
+        8 => Record::Copy { d: if rng.once_in(3) { d } else { 13 }, a, b, n: amount(rng, m) },
+        _ => Record::Fill { d: if rng.once_in(3) { d } else { 12 }, a, v: rng.byte(), n: amount(rng, m) },
+    }
+}
+
+/// A file with up to `most` records, broken once in three.
+pub fn file(rng: &mut Rng, m: u32, most: u32) -> Vec<u8> {
+    let registers = rng.pick(&[3, 6, 16]);
+    let mut file = vec![takes::VERSION, m as u8];
+    for _ in 0..rng.within(0, most) {
+        append(&mut file, record(rng, m, registers));
+    }
+    if rng.once_in(3) {
+        break_file(rng, &mut file);
+    }
+    file
+}
+
+pub fn append(file: &mut Vec<u8>, record: Record) {
+    let mut bytes = [0; 9];
+    let count = takes::write(&mut bytes, record).expect("the registers are good");
+    file.extend_from_slice(&bytes[..count]);
+}
+
+fn break_file(rng: &mut Rng, file: &mut Vec<u8>) {
+    let len = file.len() as u32;
+    match rng.below(8) {
+        0 => file.truncate(rng.below(len) as usize),
+        1 => file[0] = rng.byte(),
+        2 => file[1] = rng.pick(&[0, 4, 5, 16, 17, 255]),
+        3 => {
+            let more = rng.within(1, 12) as usize;
+            let tail = rng.bytes(more);
+            file.extend_from_slice(&tail);
+        }
+        4 => {
+            // to 8,192 bytes or just beyond
+            let wanted = 8_190 + rng.below(5) as usize;
+            while file.len() + 3 <= wanted {
+                file.extend_from_slice(&[2, 2, rng.below(16) as u8]);
+            }
+            file.resize(wanted.max(file.len()), 0);
+        }
+        _ => {
+            for _ in 0..rng.within(1, 2) {
+                let at = rng.below(len) as usize;
+                file[at] = if rng.once_in(2) { rng.byte() } else { rng.below(18) as u8 };
+            }
+        }
+    }
+}

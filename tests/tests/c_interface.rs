@@ -1,0 +1,101 @@
+//! The header from C and C++ with all warnings on, its types against the Rust declarations, and the C example.
+
+use std::path::{Path, PathBuf};
+use std::process::Command;
+
+const WARNINGS: [&str; 4] = ["-Wall", "-Wextra", "-Wpedantic", "-Werror"];
+
+fn root() -> PathBuf {
+    Path::new(env!("CARGO_MANIFEST_DIR")).parent().expect("tests/ stands in the repository").to_path_buf()
+}
+
+/// Runs a command and gives what it prints; it must succeed.
+fn run(command: &mut Command) -> String {
+    let output = command.output().unwrap_or_else(|e| panic!("{command:?}: {e}"));
+    let errors = String::from_utf8_lossy(&output.stderr);
+    assert!(output.status.success(), "{command:?}: {}\n{errors}", output.status);
+    String::from_utf8(output.stdout).expect("the output is text")
+}
+
+fn compiler(name: &str) -> Command {
+    let mut command = Command::new(name);
+    command.args(WARNINGS).arg("-I").arg(root().join("include"));
+    command
+}
+
+#[test]
+fn header_compiles_as_c_and_cpp() {
+    let header = root().join("include/tulivombe.h");
+    for (name, language, standards) in [("cc", "c", ["c99", "c11", "c17"]), ("c++", "c++", ["c++11", "c++17", "c++20"])]
+    {
+        for standard in standards {
+            let mut command = compiler(name);
+            command.arg(format!("-std={standard}")).args(["-fsyntax-only", "-x", language]).arg(&header);
+            run(&mut command);
+        }
+    }
+}
+
+#[cfg(feature = "library")]
+mod library {
+    use super::*;
+    use std::mem::{offset_of, size_of};
+    use tulivombe_tests::library::{write_flat, FlatPlace, FlatRecord};
+    use tulivombe_tests::subject::{Answer, Part, Ran};
+
+    /// Compiles a program as C or C++, links the library, and gives what it prints.
+    fn program(source: &str, language: &str) -> String {
+        let (name, standard) = if language == "c" { ("cc", "-std=c99") } else { ("c++", "-std=c++11") };
+        let source = root().join(source);
+        let stem = source.file_stem().expect("a source has a name").to_string_lossy();
+        let binary = Path::new(env!("CARGO_TARGET_TMPDIR")).join(format!("{stem}-{language}"));
+        let mut command = compiler(name);
+        command.args([standard, "-O2", "-x", language]).arg(&source).args(["-x", "none"]);
+        run(command.arg(env!("TULIVOMBE_LIBRARY")).arg("-o").arg(&binary));
+        run(&mut Command::new(&binary))
+    }
+
+    #[test]
+    fn types_are_laid_out_alike() {
+        let expected = [
+            ("answer", size_of::<Answer>()),
+            ("answer.value", offset_of!(Answer, value)),
+            ("part", size_of::<Part>()),
+            ("part.offset", offset_of!(Part, offset)),
+            ("part.length", offset_of!(Part, length)),
+            ("ran", size_of::<Ran>()),
+            ("ran.registers", offset_of!(Ran, registers)),
+            ("ran.count", offset_of!(Ran, count)),
+            ("record", size_of::<FlatRecord>()),
+            ("record.d", offset_of!(FlatRecord, d)),
+            ("record.a", offset_of!(FlatRecord, a)),
+            ("record.b", offset_of!(FlatRecord, b)),
+            ("record.byte", offset_of!(FlatRecord, byte)),
+            ("record.word", offset_of!(FlatRecord, word)),
+            ("place", size_of::<FlatPlace>()),
+            ("place.record", offset_of!(FlatPlace, record)),
+            ("place.next", offset_of!(FlatPlace, next)),
+        ];
+        let lines: String = expected.iter().map(|(name, number)| format!("tulivombe_{name} {number}\n")).collect();
+        assert_eq!(program("tests/c/layout.c", "c"), lines);
+        assert_eq!(program("tests/c/layout.c", "c++"), lines);
+    }
+
+    #[test]
+    fn example_prints_what_is_stored() {
+        let expected = std::fs::read_to_string(root().join("examples/device.stdout")).expect("the stored output");
+        assert_eq!(program("examples/device.c", "c"), expected);
+        assert_eq!(program("examples/device.c", "c++"), expected);
+    }
+
+    #[test]
+    fn unknown_operations_are_refused_by_the_writer() {
+        for operation in [0, 9, 128, 255] {
+            let mut out = [0xA5; 16];
+            let record = FlatRecord { operation, d: 99, ..FlatRecord::default() };
+            assert_eq!(write_flat(&mut out, record), Answer { number: 5, value: 0 });
+            assert_eq!(write_flat(&mut [], record), Answer { number: 5, value: 0 });
+            assert_eq!(out, [0xA5; 16]);
+        }
+    }
+}

@@ -1,0 +1,77 @@
+//! Random calls, tables, files and histories. TULIVOMBE_SEED=NUMBER repeats a run and
+//! TULIVOMBE_TIMES=NUMBER makes that many times as many cases.
+
+use tulivombe_tests::ledger;
+use tulivombe_tests::literal::Literal;
+use tulivombe_tests::plain::heap;
+use tulivombe_tests::random::{any_table, Rng};
+use tulivombe_tests::subject::{Plain, Subject};
+use tulivombe_tests::{differential, history};
+
+fn times() -> u32 {
+    std::env::var("TULIVOMBE_TIMES").map_or(1, |text| text.parse().expect("TULIVOMBE_TIMES is a number"))
+}
+
+/// `S` and `T` on the same input: `cases` lists of calls, runs and files read, in arenas up to order `largest`.
+fn compare<S: Subject, T: Subject>(name: &str, cases: u32, largest: u32) {
+    let rng = &mut Rng::seeded(name);
+    let cases = cases * times();
+    let calls = differential::calls::<S, T>(rng, cases, largest);
+    assert_eq!(calls.met(), [0, 8, 10, 11, 12, 13, 20, 21, 22, 23, 24, 25]);
+    let (runs, records) = differential::runs::<S, T>(rng, cases, largest);
+    assert_eq!(runs.met(), [0, 1, 2, 3, 4, 5, 6, 7, 8, 9]);
+    assert_eq!(records.met(), [0, 10, 11, 12, 13, 21, 22, 23, 24, 25]);
+    let replays = differential::replays::<S, T>(rng, cases, largest);
+    assert_eq!(replays.met(), [0, 4, 5, 8, 9]);
+    differential::reader::<S, T>(rng, cases);
+    differential::writer::<S, T>(rng, 4 * cases);
+    let (calls, runs, records) = (calls.total(), runs.total(), records.total());
+    println!("{name}: {calls} calls, {runs} files with {records} records carried out, {} replays", replays.total());
+}
+
+fn histories<S: Subject>(name: &str, lists: u32) {
+    let rng = &mut Rng::seeded(name);
+    let calls = history::lists::<S>(rng, lists * times());
+    differential::round_trips::<S>(rng, lists * times());
+    println!("{name}: {calls} calls in lists");
+}
+
+#[test]
+fn plain_against_the_ledger() {
+    compare::<Plain, Literal>("plain_against_the_ledger", 4_000, 9);
+}
+
+#[test]
+fn plain_histories() {
+    histories::<Plain>("plain_histories", 3_000);
+}
+
+#[test]
+fn plain_damage_scan() {
+    let rng = &mut Rng::seeded("plain_damage_scan");
+    let mut damaged = 0;
+    for _ in 0..20_000 * times() {
+        let m = rng.within(5, 9);
+        let table = any_table(rng, m);
+        let expected = ledger::damaged(&table, m);
+        assert_eq!(heap::damaged(&table, m), expected, "m = {m}, {table:?}");
+        damaged += u32::from(expected);
+    }
+    println!("plain_damage_scan: {damaged} damaged tables");
+}
+
+#[cfg(feature = "library")]
+mod library {
+    use super::*;
+    use tulivombe_tests::library::Library;
+
+    #[test]
+    fn library_against_plain() {
+        compare::<Library, Plain>("library_against_plain", 10_000, 16);
+    }
+
+    #[test]
+    fn library_histories() {
+        histories::<Library>("library_histories", 3_000);
+    }
+}
