@@ -1,4 +1,4 @@
-// The C interface: every public call under one prefix, with structs by value and slices as pointer and length. What C sees of it
+// The C interface: the heap's calls, run, replay, reader and writer under one prefix, with structs by value and slices as pointer and length. What C sees of it
 // stands in include/tulivombe.h.
 use heap::Answer;
 use runner::Ran;
@@ -12,7 +12,7 @@ ghost use Rattle.runner.specs.Runs.{runOf};
 ghost use Rattle.runner.specs.Carrying.{ranTo};
 ghost use Rattle.takes.specs.Reading.{readAt};
 ghost use Rattle.takes.specs.Writing.{writeHead};
-ghost use Rattle.cabi.specs.Flat.{flat, placed, recordOf, storedBy, writeFlat};
+ghost use Rattle.cabi.specs.Flat.{flatOf, flat, placed, recordOf, storedBy, writeFlat};
 ghost use Rattle.cabi.specs.Parts.{partOf};
 
 // A part of the lent arena, by its offset: an exported function returns no reference.
@@ -157,74 +157,32 @@ pub extern "C" fn tulivombe_replay(
     history::replay(arena, table, calls, out)
 }
 
+// A flat record of these fields, in the struct's order.
+fn flat_record(operation: u8, d: u8, a: u8, b: u8, byte: u8, word: u32) -> FlatRecord
+    ensures { λ f. ⌜ f ≡ flatOf operation d a b byte word ⌝ }
+{
+    FlatRecord {
+        operation,
+        d,
+        a,
+        b,
+        byte,
+        word,
+    }
+}
+
 fn flattened(r: Record) -> FlatRecord
     ensures { λ f. ⌜ f ≡ flat r ⌝ }
 {
     match r {
-        Record::Get(d, n) => FlatRecord {
-            operation: 1,
-            d,
-            a: 0,
-            b: 0,
-            byte: 0,
-            word: n,
-        },
-        Record::Give(a) => FlatRecord {
-            operation: 2,
-            d: 0,
-            a,
-            b: 0,
-            byte: 0,
-            word: 0,
-        },
-        Record::Step(d, a, i) => FlatRecord {
-            operation: 3,
-            d,
-            a,
-            b: 0,
-            byte: 0,
-            word: i,
-        },
-        Record::Read(d, a, w) => FlatRecord {
-            operation: 4,
-            d,
-            a,
-            b: 0,
-            byte: w,
-            word: 0,
-        },
-        Record::Write(a, w, v) => FlatRecord {
-            operation: 5,
-            d: 0,
-            a,
-            b: 0,
-            byte: w,
-            word: v,
-        },
-        Record::Left(d, a) => FlatRecord {
-            operation: 6,
-            d,
-            a,
-            b: 0,
-            byte: 0,
-            word: 0,
-        },
-        Record::Copy(d, a, b, n) => FlatRecord {
-            operation: 7,
-            d,
-            a,
-            b,
-            byte: 0,
-            word: n,
-        },
-        Record::Fill(d, a, v, n) => FlatRecord {
-            operation: 8,
-            d,
-            a,
-            b: 0,
-            byte: v,
-            word: n,
-        },
+        Record::Get(d, n) => flat_record(1, d, 0, 0, 0, n),
+        Record::Give(a) => flat_record(2, 0, a, 0, 0, 0),
+        Record::Step(d, a, i) => flat_record(3, d, a, 0, 0, i),
+        Record::Read(d, a, w) => flat_record(4, d, a, 0, w, 0),
+        Record::Write(a, w, v) => flat_record(5, 0, a, 0, w, v),
+        Record::Left(d, a) => flat_record(6, d, a, 0, 0, 0),
+        Record::Copy(d, a, b, n) => flat_record(7, d, a, b, 0, n),
+        Record::Fill(d, a, v, n) => flat_record(8, d, a, 0, v, n),
     }
 }
 
@@ -241,14 +199,7 @@ pub extern "C" fn tulivombe_read_record(file: &[u8], at: usize) -> Place
         },
         Reading::Refused(number) => Place {
             number,
-            item: FlatRecord {
-                operation: 0,
-                d: 0,
-                a: 0,
-                b: 0,
-                byte: 0,
-                word: 0,
-            },
+            item: flat_record(0, 0, 0, 0, 0, 0),
             next: 0,
         },
     }
