@@ -3,8 +3,9 @@
 use crate::call::Call;
 use crate::lent::Lent;
 use crate::plain::takes::Record;
+use crate::plain_c::PlainC;
 use crate::random::{self, Rng};
-use crate::subject::Subject;
+use crate::subject::{Answer, Plain, Subject};
 
 /// How often each number was the answer.
 #[derive(Default)]
@@ -77,6 +78,18 @@ fn buffers(rng: &mut Rng, m: u32) -> (Vec<u8>, Vec<u8>) {
 
 /// Random lists of direct calls, fresh, check and show on any buffers.
 pub fn calls<A: Subject, B: Subject>(rng: &mut Rng, lists: u32, largest: u32) -> Tally {
+    call_lists(rng, lists, largest, &format!("{} and {}", A::NAME, B::NAME), one_call::<A, B>)
+}
+
+/// Random lists of the calls that plain C has, beside plain Rust, on any buffers.
+pub fn plain_c_calls(rng: &mut Rng, lists: u32, largest: u32) -> Tally {
+    call_lists(rng, lists, largest, "plain C and plain Rust", one_plain_c_call)
+}
+
+/// Makes one call on both heaps of an order, with pointers that are known, and gives the answer's number.
+type MakeOne = fn(&mut Rng, &mut Twins, u32, &mut Vec<u32>, &str) -> u32;
+
+fn call_lists(rng: &mut Rng, lists: u32, largest: u32, names: &str, make_one: MakeOne) -> Tally {
     let mut tally = Tally::default();
     for list in 0..lists {
         let m = rng.arena_order(largest);
@@ -85,15 +98,14 @@ pub fn calls<A: Subject, B: Subject>(rng: &mut Rng, lists: u32, largest: u32) ->
         let mut known = Vec::new();
         let length = if m > 10 { 8 } else { rng.within(1, 40) };
         for index in 0..length {
-            let what = format!("{} and {}, list {list}, call {index}, m = {m}", A::NAME, B::NAME);
-            tally.count(one_call::<A, B>(rng, &mut heaps, m, &mut known, &what));
+            let what = format!("{names}, list {list}, call {index}, m = {m}");
+            tally.count(make_one(rng, &mut heaps, m, &mut known, &what));
             heaps.compare(&what);
         }
     }
     tally
 }
 
-/// Gives the answer's number.
 fn one_call<A: Subject, B: Subject>(rng: &mut Rng, heaps: &mut Twins, m: u32, known: &mut Vec<u32>, what: &str) -> u32 {
     let Twins { arenas: [a0, a1], tables: [t0, t1] } = heaps;
     match rng.below(16) {
@@ -125,15 +137,36 @@ fn one_call<A: Subject, B: Subject>(rng: &mut Rng, heaps: &mut Twins, m: u32, kn
         }
         _ => {
             let call = random::call(rng, t0.bytes(), m, known);
-            let first = call.make::<A>(a0.bytes_mut(), t0.bytes_mut());
-            let second = call.make::<B>(a1.bytes_mut(), t1.bytes_mut());
-            assert_eq!(first, second, "{what}: {call:?}");
-            if let (Call::Get { .. } | Call::Step { .. }, 0) = (call, first.number) {
-                known.push(first.value);
-            }
-            first.number
+            let answers =
+                [call.make::<A>(a0.bytes_mut(), t0.bytes_mut()), call.make::<B>(a1.bytes_mut(), t1.bytes_mut())];
+            agreed(call, answers, known, what)
         }
     }
+}
+
+fn one_plain_c_call(rng: &mut Rng, heaps: &mut Twins, m: u32, known: &mut Vec<u32>, what: &str) -> u32 {
+    let Twins { arenas: [a0, a1], tables: [t0, t1] } = heaps;
+    let p = random::pointer(rng, t0.bytes(), known);
+    let n = random::amount(rng, m);
+    let i = random::distance(rng, m);
+    let call = rng.pick(&[Call::Get { n }, Call::Give { p }, Call::Step { p, i }, Call::Left { p }]);
+    let first = match call {
+        Call::Get { n } => PlainC::get(a0.bytes_mut(), t0.bytes_mut(), n),
+        Call::Give { p } => PlainC::give(a0.bytes(), t0.bytes_mut(), p),
+        Call::Step { p, i } => PlainC::step(a0.bytes(), t0.bytes(), p, i),
+        _ => PlainC::left(a0.bytes(), t0.bytes(), p),
+    };
+    let second = call.make::<Plain>(a1.bytes_mut(), t1.bytes_mut());
+    agreed(call, [first, second], known, what)
+}
+
+/// The number of two answers to a call, which must be equal; a pointer that it gave is known from now on.
+fn agreed(call: Call, answers: [Answer; 2], known: &mut Vec<u32>, what: &str) -> u32 {
+    assert_eq!(answers[0], answers[1], "{what}: {call:?}");
+    if let (Call::Get { .. } | Call::Step { .. }, 0) = (call, answers[0].number) {
+        known.push(answers[0].value);
+    }
+    answers[0].number
 }
 
 /// Random and broken files, run on buffers that fit or not. Gives the runs' numbers and the records'.

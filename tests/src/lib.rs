@@ -10,6 +10,7 @@ pub mod lent;
 pub mod library;
 pub mod literal;
 pub mod plain;
+pub mod plain_c;
 pub mod random;
 pub mod subject;
 pub mod vectors;

@@ -60,6 +60,14 @@ fn plain_damage_scan() {
     println!("plain_damage_scan: {damaged} damaged tables");
 }
 
+#[test]
+fn plain_c_against_plain() {
+    let rng = &mut Rng::seeded("plain_c_against_plain");
+    let calls = differential::plain_c_calls(rng, 20_000 * times(), 16);
+    assert_eq!(calls.met(), [0, 8, 10, 13, 20, 21, 22, 23, 24]);
+    println!("plain_c_against_plain: {} calls", calls.total());
+}
+
 #[cfg(feature = "library")]
 mod library {
     use super::*;

@@ -7,9 +7,12 @@ pub mod Tables
 pub mod Slots
 pub mod Referents
 pub mod Runs
+pub mod Rows
 pub mod Halves
-pub mod Parts
 pub mod Places
+pub mod Keys
+pub mod Bits
+pub mod Searches
 pub mod Sets
 pub mod SetTables
 pub mod Reading

@@ -1,28 +1,71 @@
--- What the search by halves says of a part of the arena. The contracts of its helpers cite these; the search's own cites `placeIn` alone.
-use Prim.Native.Nat.{ℕ, _-_, _^_}
-use mathlib.Core.Bool.{Bool, true, false, cond}
-use lib.Dec.{ltb}
+-- What the damage scan and the search by halves test on their way. The contracts of their helpers cite these; their own cite `damagedBy` and `placeIn`.
+use Prim.Native.Nat.{ℕ, zero, suc, _+_, _-_, _*_, _^_, _≤_, _<_}
+use mathlib.Core.Bool.{Bool, false, cond, not, _&&_, _||_}
+use mathlib.Core.List.{List}
+use mathlib.Core.Path.{_≡_}
+use lib.Dec.{eqb, leb, ltb}
+use lib.ListN.{length, getD}
+use Rattle.blocks.specs.Tables.{damagedBy, freeIn}
 use Rattle.blocks.specs.Placing.{allFree, placeIn}
 use Rattle.blocks.specs.declared.Place.{Place}
 use Rattle.blocks.specs.declared.Place.the-variants.{At, Nothing}
-use Rattle.blocks.specs.declared.Part.{Part}
-use Rattle.blocks.specs.declared.Part.the-variants.{Free, Rest}
 
--- of the part of order k that begins at the slot `from`: all free, or else its place
-unfoldable pub partIn : (ℕ → Bool) → (t from k e : ℕ) → Part
-partIn f t from k e = cond (allFree f from (2 ^ (k - t))) Free (Rest (placeIn f t from k e))
+-- ---- the scan
+-- slot i has the entry x
+abbrev pub hasEntry : List ℕ → ℕ → ℕ → Bool
+hasEntry s x i = eqb (getD s i 0) x
 
-abbrev pub isFree : Part → Bool
-isFree Free = true
-isFree (Rest x) = false
+-- the entry x speaks of its slot alone: the slot is free, or a block
+unfoldable pub single : ℕ → ℕ → Bool
+single t x = eqb x 0 || eqb x t
 
--- the place in a part of order k, at least that which is sought, that begins at the slot `from`
-abbrev pub placeOf : Part → ℕ → ℕ → Place
-placeOf Free from k = At from k
-placeOf (Rest x) from k = x
+-- the entry x is of a free slot, or of a block of at most sixteen slots
+abbrev pub inRow : ℕ → ℕ → Bool
+inRow t x = eqb x 0 || (leb t x && leb x (t + 4))
+
+-- ---- the search
+-- slot i is free, or is taken
+abbrev pub asFree : List ℕ → Bool → ℕ → Bool
+asFree s free i = cond free (freeIn s i) (not (freeIn s i))
+
+-- the n slots from i on as a number: bit k is 1 where slot i + k is free
+unfoldable pub bitsOf : (ℕ → Bool) → (i n : ℕ) → ℕ
+bitsOf f i zero = 0
+bitsOf f i (suc n) = cond (f i) 1 0 + 2 * bitsOf f (suc i) n
+
+-- a place as a number, the smaller the better the place is: by its order, and of equals by its slot; no place is worse than any
+unfoldable pub keyOf : Place → ℕ
+keyOf Nothing = 1114112
+keyOf (At s k) = k * 65536 + s
 
 -- of two places the one of the smaller order, and the first of equals
 abbrev pub smallerOf : Place → Place → Place
 smallerOf Nothing y = y
 smallerOf (At s k) Nothing = At s k
 smallerOf (At s k) (At s′ k′) = cond (ltb k′ k) (At s′ k′) (At s k)
+
+-- r answers for the part of order k at the slot `from`, whatever the slots outside it are: the part's free ones are the bits, and it is not all free
+abbrev pub SearchedBits : (t bits from k e r : ℕ) → Type 0
+SearchedBits t bits from k e r =
+    (f : ℕ → Bool) → bits ≡ bitsOf f from (2 ^ (k - t)) → allFree f from (2 ^ (k - t)) ≡ false → r ≡ keyOf (placeIn f t from k e)
+
+-- r answers for it, or is 0 where its halves have to be looked at
+pub record Decided (t bits from k e r : ℕ) : Type 0 where
+  pub answer : (r ≡ 0 → ⊥) → (f : ℕ → Bool) → bits ≡ bitsOf f from (2 ^ (k - t)) → r ≡ keyOf (placeIn f t from k e)
+  pub above : r ≡ 0 → e < k
+  pub mixed : r ≡ 0 → (f : ℕ → Bool) → bits ≡ bitsOf f from (2 ^ (k - t)) → allFree f from (2 ^ (k - t)) ≡ false
+
+-- the list p is the part of order k, at the slot `from`, of the undamaged table s of an arena, and one that halving the arena gives
+pub record PartOf (t : ℕ) (s : List ℕ) (from k : ℕ) (p : List ℕ) : Type 0 where
+  pub top : ℕ
+  pub slots : length s ≡ 2 ^ (top - t)
+  pub whole : damagedBy t top s ≡ false
+  pub high : k ≤ top
+  pub index : ℕ
+  pub place : from ≡ index * 2 ^ (k - t)
+  pub inside : from + 2 ^ (k - t) ≤ length s
+  pub entries : (i : ℕ) → i < 2 ^ (k - t) → getD p i 0 ≡ getD s (from + i) 0
+
+-- r answers for it, in whatever table it is
+abbrev pub SearchedPart : ℕ → List ℕ → (from k e r : ℕ) → Type 0
+SearchedPart t p from k e r = (s : List ℕ) → PartOf t s from k p → r ≡ keyOf (placeIn (freeIn s) t from k e)

@@ -1,15 +1,19 @@
 // Aligned blocks and their table: the damage scan, a pointer's referent, the check of a step, and the search for a free range.
 ghost use mathlib.Core.Path.{_≡_};
-ghost use mathlib.Core.Bool.{false, _&&_};
+ghost use mathlib.Core.Bool.{false};
 ghost use lib.ListN.{length};
-ghost use Prim.Native.Nat.{_+_, _-_, _^_, _≤_, _<_};
+ghost use Prim.Native.Nat.{_+_, _-_, _*_, _%_, _^_, _≤_, _<_};
 ghost use Rattle.blocks.specs.Blocks.{floor, holds};
 ghost use Rattle.blocks.specs.Orders.{orderOf, neededOrder};
 ghost use Rattle.blocks.specs.Seeking.{fromZero};
 ghost use Rattle.blocks.specs.Tables.{damagedBy, freeIn, referentIn};
-ghost use Rattle.blocks.specs.Placing.{allFree, placeIn};
-ghost use Rattle.blocks.specs.Searching.{partIn, isFree, placeOf, smallerOf};
+ghost use Rattle.blocks.specs.Placing.{placeIn};
 ghost use Rattle.blocks.specs.Pointers.{sought, referentAt, marked, address, exactSum, wrappedSum, checkBits, within};
+use search::KEYS;
+use search::NOWHERE;
+
+mod scan;
+mod search;
 
 // The arena's first address, the bit that marks a pointer, and the order and size of a slot.
 const BASE: u32 = 65536;
@@ -19,6 +23,11 @@ const MARK: u32 = 2147483648;
 const SLOT_ORDER: u32 = 4;
 
 const SLOT_SIZE: u32 = 16;
+
+// A row: as many slots as are compared at a time, and the order of a block that has as many.
+const ROW: usize = 16;
+
+const ROW_ORDER: u32 = 8;
 
 // The block that a pointer refers to, by its start and order.
 pub enum Referent {
@@ -30,12 +39,6 @@ pub enum Referent {
 pub enum Place {
     At { slot: usize, order: u32 },
     Nothing,
-}
-
-// What the search says of a part of the arena: that it is all free, or else its place.
-pub enum Part {
-    Free,
-    Rest(Place),
 }
 
 // The order m of an arena of `len` bytes, or 0 where no arena has that length.
@@ -166,127 +169,30 @@ pub fn referent_of(table: &[u8], m: u32, p: u32) -> Referent
     referent_at(table, m, sought_address(p))
 }
 
-// Whether the table of an arena of order m is damaged. A block that is found whole is passed whole, so that each slot is
-// looked at once, or twice where it is the first of a block.
+// Whether the table of an arena of order m is damaged.
 pub fn damaged(table: &[u8], m: u32) -> bool
     requires { ⌜ (4 ≤ m) × (m ≤ 16) × (length (now table) ≡ 2 ^ (m - 4)) ⌝ }
     ensures { λ r. ⌜ r ≡ damagedBy 4 m (now (table .entry)) ⌝ }
 {
-    let mut found = false;
-    let mut i = 0usize;
-    'scan: while i < table.len() {
-        let e = wide(table[i]);
-        if e == 0 {
-            i += 1;
-            continue 'scan;
-        }
-        if e < SLOT_ORDER {
-            found = true;
-            break 'scan;
-        }
-        if m < e {
-            found = true;
-            break 'scan;
-        }
-        let slots = slots_of(e);
-        let from = i / slots * slots;
-        let to = from + slots;
-        let mut k = from;
-        'block: while k < to {
-            if wide(table[k]) != e {
-                found = true;
-                break 'scan;
-            }
-            k += 1;
-        }
-        i = to;
+    let n = table.len();
+    if m < ROW_ORDER {
+        return scan::by_slots(&table[0..n], m);
     }
-    found
+    scan::by_rows(&table[0..n], m)
 }
 
-// Whether the n slots from `from` on are all free.
-fn all_free(table: &[u8], from: usize, n: usize) -> bool
-    requires { ⌜ from + n ≤ length (now table) ⌝ }
-    ensures { λ r. ⌜ r ≡ allFree (freeIn (now (table .entry))) from n ⌝ }
-{
-    let mut i = 0usize;
-    while i < n {
-        if table[from + i] != 0 {
-            return false;
-        }
-        i += 1;
-    }
-    true
-}
-
-fn both_free(left: Part, right: Part) -> bool
-    ensures { λ r. ⌜ r ≡ isFree left && isFree right ⌝ }
-{
-    match left {
-        Part::Rest(_) => false,
-        Part::Free => match right {
-            Part::Rest(_) => false,
-            Part::Free => true,
-        },
-    }
-}
-
-// The place in a part of order k that begins at the slot `from`, by what the search says of it.
-fn place_of(part: Part, from: usize, k: u32) -> Place
-    ensures { λ r. ⌜ r ≡ placeOf part from k ⌝ }
-{
-    match part {
-        Part::Rest(place) => place,
-        Part::Free => Place::At {
-            slot: from,
-            order: k,
-        },
-    }
-}
-
-// Of the places in two halves: that of the smaller order, and the left one of two equal orders.
-fn smaller(left: Place, right: Place) -> Place
-    ensures { λ r. ⌜ r ≡ smallerOf left right ⌝ }
-{
-    match left {
-        Place::Nothing => right,
-        Place::At { slot: _, order } => match right {
-            Place::Nothing => left,
-            Place::At {
-                slot: _,
-                order: other,
-            } => if other < order { right } else { left },
-        },
-    }
-}
-
-// What there is for a block of order e in the part of order k that begins at the slot `from`. A part of order e is tested as one run, because
-// nothing below it can take the block; so no slot is read twice.
-fn search(table: &[u8], from: usize, k: u32, e: u32) -> Part
-    requires { ⌜ (4 ≤ e) × (e ≤ k) × (k ≤ 16) × (from + 2 ^ (k - 4) ≤ length (now table)) ⌝ }
-    ensures { λ r. ⌜ r ≡ partIn (freeIn (now (table .entry))) 4 from k e ⌝ }
-{
-    if k == e {
-        if all_free(table, from, slots_of(k)) {
-            return Part::Free;
-        }
-        return Part::Rest(Place::Nothing);
-    }
-    let half = slots_of(k - 1);
-    let left = search(table, from, k - 1, e);
-    let right = search(table, from + half, k - 1, e);
-    if both_free(left, right) {
-        return Part::Free;
-    }
-    let l = place_of(left, from, k - 1);
-    let r = place_of(right, from + half, k - 1);
-    Part::Rest(smaller(l, r))
-}
-
-// The place for a block of order e in an arena of order m: the maximal free range of the smallest order that is at least e, of equals the lowest.
+// The place for a block of order e in an arena of order m with an undamaged table: the maximal free range of the smallest order that is at
+// least e, of equals the lowest.
 pub fn find_place(table: &[u8], m: u32, e: u32) -> Place
-    requires { ⌜ (4 ≤ e) × (e ≤ m) × (m ≤ 16) × (length (now table) ≡ 2 ^ (m - 4)) ⌝ }
+    requires { ⌜ (4 ≤ e) × (e ≤ m) × (m ≤ 16) × (length (now table) ≡ 2 ^ (m - 4)) × (damagedBy 4 m (now table) ≡ false) ⌝ }
     ensures { λ r. ⌜ r ≡ placeIn (freeIn (now (table .entry))) 4 0 m e ⌝ }
 {
-    place_of(search(table, 0, m, e), 0, m)
+    let found = search::place_key(table, m, e);
+    if found == NOWHERE {
+        return Place::Nothing;
+    }
+    Place::At {
+        slot: (found % KEYS) as usize,
+        order: found / KEYS,
+    }
 }

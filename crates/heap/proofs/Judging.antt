@@ -4,7 +4,8 @@ use mathlib.Core.Path.{_≡_, refl, sym, _∙_, ap, ap₂, subst}
 use mathlib.Core.Bool.{Bool, true, false, not, cond, _&&_}
 use mathlib.Core.List.{List, [], _∷_, _++_}
 use native.Mathlib.Omega.{arith}
-use borrow.Author.Tests.{ltb-true, leb-true, eqb-true, le-leb, eq-eqb, not-false}
+use native.Mathlib.Decide.{decLt}
+use borrow.Author.Tests.{ltb-true, leb-true, eqb-true, eqb-false, le-leb, eq-eqb, ne-eqb, not-false}
 use lib.Dec.{eqb, ltb, leb}
 use lib.ListN.{length, replicate, length-replicate}
 use Rattle.common.specs.Refusals.{Refusal, _when_, first}
@@ -12,14 +13,14 @@ use Rattle.common.specs.Bytes.{over}
 use Rattle.common.proofs.Bytes.{over-whole}
 use Rattle.blocks.proofs.Booleans.{and-left, and-right, and-both}
 use Rattle.blocks.proofs.Floors.{pow-split}
-use Rattle.blocks.proofs.Orders.{order-sound}
+use Rattle.blocks.proofs.Orders.{order-sound, order-power}
 use Rattle.blocks.specs.Tables.{damagedBy}
 use Rattle.blocks.specs.Orders.{orderOf}
 use Rattle.heap.specs.Views.{View}
 use Rattle.heap.specs.Rules.{argumentRules, stateRules, rules}
 use Rattle.heap.specs.Effects.{value, stored, Outcome, settled}
 use Rattle.heap.specs.Heaps.{Heap, heapOf, heapView, viewOf, entered, heapStep, heapCall, heapFresh, freshHeap, bit, heapCheck, outcome}
-use Rattle.heap.specs.Judging.{heapOrder, Ready, Judged}
+use Rattle.heap.specs.Judging.{heapOrder, beforeCall, Sound, Ready}
 use Rattle.heap.specs.declared.Answer.{Answer}
 use Rattle.heap.specs.declared.Call.{Call}
 use Rattle.heap.specs.declared.Call.the-variants.{Get, Give, Step, Read, Write, Left, Copy, Fill}
@@ -43,14 +44,7 @@ clear ((n when b) ∷ rs) h e k = go (clear rs (and-right (ltb 0 n) _ h)) b e (e
     go ih false x true = refl
     go ih false x false = ih x k
 
-first-goes-on : (xs ys : List Refusal) → positive xs ≡ true → first xs ≡ 0 → first (xs ++ ys) ≡ first ys
-first-goes-on [] ys q z = refl
-first-goes-on ((k when b) ∷ xs) ys q z = go b z (first-goes-on xs ys (and-right (ltb 0 k) _ q))
-  where
-    go : (b : Bool) → cond b k (first xs) ≡ 0 → (first xs ≡ 0 → first (xs ++ ys) ≡ first ys) → cond b k (first (xs ++ ys)) ≡ first ys
-    go true n ih = let l : 0 < k = ltb-true 0 k (and-left _ _ q) in absurd (omega arith)
-    go false n ih = ih n
-
+-- a list that refuses, before another
 first-stays : (xs ys : List Refusal) → (first xs ≡ 0 → ⊥) → first (xs ++ ys) ≡ first xs
 first-stays [] ys n = absurd (n refl)
 first-stays ((k when b) ∷ xs) ys n = go b n (first-stays xs ys)
@@ -59,7 +53,20 @@ first-stays ((k when b) ∷ xs) ys n = go b n (first-stays xs ys)
     go true n ih = refl
     go false n ih = ih n
 
-pub arguments-positive : (m : ℕ) (c : Call) → positive (argumentRules m c) ≡ true
+-- the refusal n, none where it is 0
+abbrev numbered : ℕ → Refusal
+numbered n = n when not (eqb n 0)
+
+-- any list, before another
+first-append : (xs ys : List Refusal) → positive xs ≡ true → first (xs ++ ys) ≡ first (numbered (first xs) ∷ ys)
+first-append [] ys q = refl
+first-append ((k when b) ∷ xs) ys q = go b (first-append xs ys (and-right (ltb 0 k) _ q))
+  where
+    go : (b : Bool) → first (xs ++ ys) ≡ first (numbered (first xs) ∷ ys) → cond b k (first (xs ++ ys)) ≡ first (numbered (cond b k (first xs)) ∷ ys)
+    go true ih = let l : 0 < k = ltb-true 0 k (and-left _ _ q) in rw (ne-eqb k 0 (λ z. omega arith))
+    go false ih = ih
+
+arguments-positive : (m : ℕ) (c : Call) → positive (argumentRules m c) ≡ true
 unfolding argumentRules
 arguments-positive m (Get n) = refl
 arguments-positive m (Give p) = refl
@@ -70,41 +77,31 @@ arguments-positive m (Left p) = refl
 arguments-positive m (Copy p q n) = refl
 arguments-positive m (Fill p v n) = refl
 
+-- a call's rules: 8, the arguments' refusal n, 0 for none, 20, and the rest
+abbrev judging : Bool → ℕ → Bool → List Refusal → List Refusal
+judging b n d rs = 8 when b ∷ numbered n ∷ 20 when d ∷ rs
+
+pub rules-first : (m : ℕ) (c : Call) (w : View)
+    → first (rules m c w) ≡ first (judging (w .wrong-sizes) (first (argumentRules m c)) (w .damaged) (stateRules m c w))
+unfolding rules
+rules-first m c w = ap (cond (w .wrong-sizes) 8) (first-append (argumentRules m c) (20 when w .damaged ∷ stateRules m c w) (arguments-positive m c))
+
+-- where none applies
+pub judging-clear : (b : Bool) (n : ℕ) (d : Bool) (rs : List Refusal) → first (judging b n d rs) ≡ 0 → (b ≡ false) × (n ≡ 0) × (d ≡ false) × (first rs ≡ 0)
+judging-clear b n d rs z = go b (eqb n 0) refl d z
+  where
+    go : (b e : Bool) → eqb n 0 ≡ e → (d : Bool) → cond b 8 (cond (not e) n (cond d 20 (first rs))) ≡ 0 → (b ≡ false) × (n ≡ 0) × (d ≡ false) × (first rs ≡ 0)
+    go true e x d z = absurd (omega arith)
+    go false false x d z = absurd (eqb-false n 0 x z)
+    go false true x true z = absurd (omega arith)
+    go false true x false z = (refl, eqb-true n 0 x, refl, z)
+
 abbrev pub answer : ℕ → ℕ → Answer
 answer n v = record { number = n; value = v }
-
-sizes-right : (m : ℕ) (a t : List ℕ) → 5 ≤ m → m ≤ 16 → length a ≡ 2 ^ m → length t ≡ 2 ^ (m - 4) → heapView m (heapOf a t) .wrong-sizes ≡ false
-sizes-right m a t l h s k = ap not (and-both (le-leb 5 m l) (and-both (le-leb m 16 h) (and-both (eq-eqb _ _ s) (eq-eqb _ _ k))))
 
 settled-refused : {S : Type 0} (k : ℕ) (old : S) (v : ℕ) (new : S) → (k ≡ 0 → ⊥) → record { answer = answer k 0; state = old } ≡ settled k old v new
 settled-refused zero old v new n = absurd (n refl)
 settled-refused (suc k) old v new n = refl
-
-module _ (m : ℕ) (c : Call) (a t : List ℕ) (z : Ready m c a t) where
-  abbrev w : View
-  w = heapView m (heapOf a t)
-
-  -- no argument is refused by the number k
-  pub argument-clear : (k : ℕ) → condOf k (argumentRules m c) ≡ false
-  argument-clear = clear (argumentRules m c) (arguments-positive m c) (z .arguments)
-
-  right-sizes : w .wrong-sizes ≡ false
-  right-sizes = sizes-right m a t (z .sound .low) (z .sound .high) (z .sound .size) (z .sound .slots)
-
-  pub ready-first : first (rules m c w) ≡ first (stateRules m c w)
-  unfolding rules
-  ready-first =
-      ap (λ (b : Bool). cond b 8 (first (argumentRules m c ++ (20 when w .damaged ∷ stateRules m c w)))) right-sizes
-      ∙ first-goes-on (argumentRules m c) (20 when w .damaged ∷ stateRules m c w) (arguments-positive m c) (z .arguments)
-      ∙ ap (λ (b : Bool). cond b 20 (first (stateRules m c w))) (z .sound .whole)
-
-  pub step-refused : (k : ℕ) → k ≡ first (stateRules m c w) → (k ≡ 0 → ⊥) → outcome (answer k 0) a t ≡ heapStep m c (heapOf a t)
-  unfolding heapStep
-  step-refused k q n = rw (ready-first, ← q) (settled-refused k (heapOf a t) (value m c w a) (heapOf (stored m c w a) (entered m c w t)) n)
-
-  pub step-accepted : first (stateRules m c w) ≡ 0 → outcome (answer 0 (value m c w a)) (stored m c w a) (entered m c w t) ≡ heapStep m c (heapOf a t)
-  unfolding heapStep
-  step-accepted q = rw (ready-first, q)
 
 -- The lengths, by the order that the code computes.
 module _ (a t : List ℕ) where
@@ -160,93 +157,118 @@ module _ (a t : List ℕ) where
           let y : length a / 16 ≡ length t = eqb-true _ _ x in
           subst Sized (sym q) (record { same = refl; low = s .low; high = omega (arith, s .high); size = s .size; slots = omega (arith, s .size) })
 
--- What the judge says, and what a call that was judged answers.
-module _ (c : Call) (a t : List ℕ) where
-  abbrev judging : ℕ → List Refusal
-  judging m = rules m c (heapView m (heapOf a t))
+  -- a sound heap has these lengths, and no damage
+  pub sized-sound : {m : ℕ} → Sized m → damagedBy 4 m t ≡ false → Sound m a t
+  sized-sound s d = record { low = s .low; high = s .high; size = s .size; slots = s .slots; whole = d }
 
-  pub judged-8 : (m : ℕ) → m ≡ heapOrder a t → m ≡ 0 → Judged c a t 8 0
-  unfolding rules
-  judged-8 m q z = record { refusal = λ x. rw (order-wrong a t (sym q ∙ z)); same = λ x. absurd (omega arith); ready = λ x. absurd (omega arith) }
+  pub sound-sized : {m : ℕ} → Sound m a t → Sized m
+  sound-sized {m} s =
+      record { same = sym (ap orderOf (s .size) ∙ order-power m (s .low) (s .high)); low = s .low; high = s .high; size = s .size; slots = s .slots }
 
-  module _ (m : ℕ) (q : m ≡ heapOrder a t) (n : m ≡ 0 → ⊥) where
-    abbrev sized : Sized a t m
-    sized = order-sized a t m q n
+  pub sizes-right : {m : ℕ} → Sized m → heapView m (heapOf a t) .wrong-sizes ≡ false
+  sizes-right {m} s = ap not (and-both (le-leb 5 m (s .low)) (and-both (le-leb m 16 (s .high)) (and-both (eq-eqb _ _ (s .size)) (eq-eqb _ _ (s .slots)))))
 
-    same-rules : first (judging m) ≡ first (judging (orderOf (length a)))
-    same-rules = ap (λ (k : ℕ). first (judging k)) (sized .same)
+-- a call that is refused by the number k
+pub refused-step : (m : ℕ) (c : Call) (a t : List ℕ) {k : ℕ} {r : Answer} → k ≡ first (rules m c (heapView m (heapOf a t))) → (k ≡ 0 → ⊥) → r ≡ answer k 0
+    → outcome r a t ≡ heapStep m c (heapOf a t)
+unfolding heapStep
+refused-step m c a t {k = k} q n e = rw (e, ← q) (settled-refused k (heapOf a t) _ _ n)
 
-    after-sizes : first (judging m) ≡ first (argumentRules m c ++ (20 when damagedBy 4 m t ∷ stateRules m c (heapView m (heapOf a t))))
-    unfolding rules
-    after-sizes =
-        ap (λ (b : Bool). cond b 8 (first (argumentRules m c ++ (20 when damagedBy 4 m t ∷ stateRules m c (heapView m (heapOf a t))))))
-        (sizes-right m a t (sized .low) (sized .high) (sized .size) (sized .slots))
+module _ (m : ℕ) (c : Call) (a t : List ℕ) (z : Ready m c a t) where
+  abbrev w : View
+  w = heapView m (heapOf a t)
 
-    pub judged-arguments : (k : ℕ) → k ≡ first (argumentRules m c) → (k ≡ 0 → ⊥) → Judged c a t k 0
-    judged-arguments k e x =
-        record {
-          refusal = λ y.
-              e ∙ sym (first-stays (argumentRules m c) (20 when damagedBy 4 m t ∷ stateRules m c (heapView m (heapOf a t))) (λ z. x (e ∙ z)))
-              ∙ sym after-sizes ∙ same-rules;
-          same = λ z. absurd (x z);
-          ready = λ z. absurd (x z);
-        }
+  -- no argument is refused by the number k
+  pub argument-clear : (k : ℕ) → condOf k (argumentRules m c) ≡ false
+  argument-clear = clear (argumentRules m c) (arguments-positive m c) (z .arguments)
 
-    module _ (e : first (argumentRules m c) ≡ 0) where
-      pub judged-20 : damagedBy 4 m t ≡ true → Judged c a t 20 0
-      judged-20 d =
-          record {
-            refusal = λ y.
-                sym (ap (λ (b : Bool). cond b 20 (first (stateRules m c (heapView m (heapOf a t))))) d)
-                ∙ sym (first-goes-on (argumentRules m c) (20 when damagedBy 4 m t ∷ stateRules m c (heapView m (heapOf a t))) (arguments-positive m c) e)
-                ∙ sym after-sizes ∙ same-rules;
-            same = λ z. absurd (omega arith);
-            ready = λ z. absurd (omega arith);
-          }
+  pub ready-first : first (rules m c w) ≡ first (stateRules m c w)
+  ready-first = rules-first m c w ∙ rw (sizes-right a t (sound-sized a t (z .sound)), z .arguments, z .sound .whole)
 
-      pub judged-ready : damagedBy 4 m t ≡ false → Judged c a t 0 m
-      judged-ready d =
-          record {
-            refusal = λ y. absurd (y refl);
-            same = λ z. sized .same;
-            ready = λ z.
-                record {
-                  sound = record { low = sized .low; high = sized .high; size = sized .size; slots = sized .slots; whole = d };
-                  arguments = e;
-                };
-          }
+  pub step-refused : (k : ℕ) → k ≡ first (stateRules m c w) → (k ≡ 0 → ⊥) → outcome (answer k 0) a t ≡ heapStep m c (heapOf a t)
+  step-refused k q n = refused-step m c a t (q ∙ sym ready-first) n refl
+
+  pub step-accepted : first (stateRules m c w) ≡ 0 → outcome (answer 0 (value m c w a)) (stored m c w a) (entered m c w t) ≡ heapStep m c (heapOf a t)
+  unfolding heapStep
+  step-accepted q = rw (ready-first, q)
+
+-- What the order m that the code computes says of the lengths.
+pub record Ordered (a t : List ℕ) (m : ℕ) : Type 0 where
+  pub wrong : m ≡ 0 → viewOf (heapOf a t) .wrong-sizes ≡ true
+  pub sized : (m ≡ 0 → ⊥) → Sized a t m
+
+pub ordered : {a t : List ℕ} {m : ℕ} → m ≡ heapOrder a t → Ordered a t m
+ordered {a = a} {t = t} {m = m} q = record { wrong = λ z. ap not (order-wrong a t (sym q ∙ z)); sized = order-sized a t m q }
+
+-- what `arguments` and `before_call` require
+pub order-top : {a t : List ℕ} {m : ℕ} → Ordered a t m → m ≤ 16
+order-top {m = m} o = elim (decLt 0 m) [ yes p ↦ o .sized (λ z. omega arith) .high | no p ↦ omega arith ]
+
+pub order-slots : {a t : List ℕ} {m : ℕ} → Ordered a t m → (m ≡ 0 → ⊥) → (4 ≤ m) × (m ≤ 16) × (length t ≡ 2 ^ (m - 4))
+order-slots o n = let s = o .sized n in (omega (arith, s .low), s .high, s .slots)
+
+order-sizes : {a t : List ℕ} {m : ℕ} → Ordered a t m → heapView m (heapOf a t) .wrong-sizes ≡ eqb m 0
+order-sizes {m = zero} o = refl
+order-sizes {a = a} {t = t} {m = suc m} o = sizes-right a t (o .sized (λ z. omega arith)) ∙ sym (ne-eqb (suc m) 0 (λ z. omega arith))
+
+order-rules : {a t : List ℕ} {m : ℕ} (c : Call) → Ordered a t m
+    → first (rules m c (heapView m (heapOf a t))) ≡ first (rules (orderOf (length a)) c (viewOf (heapOf a t)))
+unfolding rules
+order-rules {m = zero} c o = rw (o .wrong refl)
+order-rules {a = a} {t = t} {m = suc m} c o = ap (λ (k : ℕ). first (rules k c (heapView k (heapOf a t)))) (o .sized (λ z. omega arith) .same)
+
+-- A call that was judged: its refusal before it is carried out, or what it may rely on.
+pub record Judged (c : Call) (a t : List ℕ) (number order : ℕ) : Type 0 where
+  pub refusal : (number ≡ 0 → ⊥) → number ≡ first (rules (orderOf (length a)) c (viewOf (heapOf a t)))
+  pub ready : number ≡ 0 → Ready order c a t
+
+-- by what `order_of`, `arguments` and `before_call` ensure
+pub judge : {c : Call} {a t : List ℕ} {m n k : ℕ} → Ordered a t m → n ≡ first (argumentRules m c) → k ≡ beforeCall m n t → Judged c a t k m
+judge {c = c} {a = a} {t = t} {m = m} {n = n} o x h =
+    let w = heapView m (heapOf a t) in
+    record {
+      refusal = λ y.
+          h ∙ sym (first-stays (judging (eqb m 0) n (w .damaged) []) (stateRules m c w) (λ z. y (h ∙ z)))
+          ∙ ap₂ (λ (b : Bool) (l : ℕ). first (judging b l (w .damaged) (stateRules m c w))) (sym (order-sizes o)) x
+          ∙ sym (rules-first m c w) ∙ order-rules c o;
+      ready = λ z.
+          let (e, u, d, _) = judging-clear (eqb m 0) n (w .damaged) [] (sym h ∙ z) in
+          record { sound = sized-sound a t (o .sized (eqb-false m 0 e)) d; arguments = sym x ∙ u };
+    }
 
 module _ {c : Call} {a t : List ℕ} {k m : ℕ} (j : Judged c a t k m) where
-  pub judged-refused : (k ≡ 0 → ⊥) → outcome (answer k 0) a t ≡ heapCall c (heapOf a t)
-  unfolding heapCall heapStep
-  judged-refused n = rw (← j .refusal n) (settled-refused k (heapOf a t) _ _ n)
+  pub judged-refused : (k ≡ 0 → ⊥) → {r : Answer} → r ≡ answer k 0 → outcome r a t ≡ heapCall c (heapOf a t)
+  unfolding heapCall
+  judged-refused n e = refused-step (orderOf (length a)) c a t (j .refusal n) n e
 
   pub judged-call : k ≡ 0 → {x : Outcome Heap} → x ≡ heapStep m c (heapOf a t) → x ≡ heapCall c (heapOf a t)
   unfolding heapCall
-  judged-call z e = e ∙ ap (λ (o : ℕ). heapStep o c (heapOf a t)) (j .same z)
+  judged-call z e = e ∙ ap (λ (o : ℕ). heapStep o c (heapOf a t)) (sound-sized a t (j .ready z .sound) .same)
 
-pub check-refused : {p k m : ℕ} {a t : List ℕ} (i : ℕ) → Judged (Left p) a t k m → (k ≡ 0 → ⊥) → answer k 0 ≡ heapCheck p i (heapOf a t)
+pub check-refused : {p k m : ℕ} {a t : List ℕ} {r : Answer} (i : ℕ) → Judged (Left p) a t k m → (k ≡ 0 → ⊥) → r ≡ answer k 0 → r ≡ heapCheck p i (heapOf a t)
 unfolding heapCheck
-check-refused {p = p} {k = k} {a = a} {t = t} i j n =
+check-refused {p = p} {k = k} {a = a} {t = t} i j n e =
     let h : Heap = heapOf a t in
     let v : ℕ = bit (viewOf h .inside p i) in
-    ap (λ (x : Outcome Heap). x .answer) (settled-refused k h v h n ∙ ap (λ (x : ℕ). settled x h v h) (j .refusal n))
+    e ∙ ap (λ (x : Outcome Heap). x .answer) (settled-refused k h v h n ∙ ap (λ (x : ℕ). settled x h v h) (j .refusal n))
 
 -- Fresh: on buffers whose lengths fit it leaves the fresh heap of their order.
-pub fresh-heap : (a t : List ℕ) → viewOf (heapOf a t) .wrong-sizes ≡ false → heapFresh (heapOf a t) ≡ record { answer = answer 0 0; state = freshHeap (orderOf (length a)) }
+pub fresh-heap : (a t : List ℕ) → viewOf (heapOf a t) .wrong-sizes ≡ false
+    → heapFresh (heapOf a t) ≡ record { answer = answer 0 0; state = freshHeap (orderOf (length a)) }
 unfolding heapFresh
 fresh-heap a t z =
     let s = fits-sized a t (not-false _ z) in
     rw z (ap₂ (λ (n k : ℕ). outcome (answer 0 0) (replicate n 0) (replicate k 0)) (s .size) (s .slots))
 
-module _ (a t : List ℕ) (m : ℕ) (q : m ≡ heapOrder a t) where
-  pub fresh-refused : m ≡ 0 → outcome (answer 8 0) a t ≡ heapFresh (heapOf a t)
+module _ {a t : List ℕ} {m : ℕ} (o : Ordered a t m) where
+  pub fresh-refused : m ≡ 0 → {r : Answer} → r ≡ answer 8 0 → outcome r a t ≡ heapFresh (heapOf a t)
   unfolding heapFresh
-  fresh-refused z = rw (order-wrong a t (sym q ∙ z))
+  fresh-refused z e = rw (e, o .wrong z)
 
-  pub fresh-done : (m ≡ 0 → ⊥) → (a′ t′ : List ℕ) → a′ ≡ over a 0 (replicate (length a) 0) → t′ ≡ over t 0 (replicate (length t) 0) → outcome (answer 0 0) a′ t′ ≡ heapFresh (heapOf a t)
+  pub fresh-done : (m ≡ 0 → ⊥) → {r : Answer} {a′ t′ : List ℕ} → r ≡ answer 0 0
+      → a′ ≡ over a 0 (replicate (length a) 0) → t′ ≡ over t 0 (replicate (length t) 0) → outcome r a′ t′ ≡ heapFresh (heapOf a t)
   unfolding heapFresh
-  fresh-done n a′ t′ x y =
-      let s = order-sized a t m q n in
-      let r : viewOf (heapOf a t) .wrong-sizes ≡ false = rw (← s .same) (sizes-right m a t (s .low) (s .high) (s .size) (s .slots)) in
-      rw (r, x ∙ over-whole a _ (length-replicate (length a) 0), y ∙ over-whole t _ (length-replicate (length t) 0))
+  fresh-done n e x y =
+      let s = o .sized n in
+      let z : viewOf (heapOf a t) .wrong-sizes ≡ false = rw (← s .same) (sizes-right a t s) in
+      rw (z, e, x ∙ over-whole a _ (length-replicate (length a) 0), y ∙ over-whole t _ (length-replicate (length t) 0))

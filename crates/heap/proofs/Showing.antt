@@ -1,18 +1,17 @@
 -- Showing a sample, by what left answers for the same p.
-use Prim.Native.Nat.{ℕ, zero, suc, _+_, _-_, _^_, _≤_, _<_}
+use Prim.Native.Nat.{ℕ, zero, suc, _+_, _-_, _^_, _≤_}
 use mathlib.Core.Path.{_≡_, refl, sym, _∙_, ap}
 use mathlib.Core.Bool.{Bool, true, false, cond, false≢true}
-use mathlib.Core.List.{List, [], _∷_, _++_}
+use mathlib.Core.List.{List, []}
 use native.Mathlib.Omega.{arith}
-use borrow.Author.Tests.{ltb-true, eqb-true, eq-eqb, ne-eqb, not-false}
-use lib.Dec.{eqb, ltb}
+use borrow.Author.Tests.{eqb-true, eq-eqb, ne-eqb, not-false}
+use lib.Dec.{eqb}
 use lib.ListN.{length, take, drop}
-use Rattle.common.specs.Refusals.{Refusal, _when_, first}
+use Rattle.common.specs.Refusals.{first}
 use Rattle.blocks.specs.Blocks.{base, missing, leftIn}
 use Rattle.blocks.specs.Orders.{orderOf}
 use Rattle.blocks.specs.declared.Referent.{Referent}
 use Rattle.blocks.specs.declared.Referent.the-variants.{Missing, Found}
-use Rattle.blocks.proofs.Booleans.{and-left, and-right}
 use Rattle.heap.specs.Views.{View, referentOfPointer}
 use Rattle.heap.specs.Rules.{argumentRules, stateRules, rules}
 use Rattle.heap.specs.Effects.{value, leftFrom, settled}
@@ -21,7 +20,7 @@ use Rattle.heap.specs.Judging.{Ready}
 use Rattle.heap.specs.declared.Answer.{Answer}
 use Rattle.heap.specs.declared.Call.{Call}
 use Rattle.heap.specs.declared.Call.the-variants.{Left}
-use Rattle.heap.proofs.Judging.{positive, arguments-positive, fits-sized}
+use Rattle.heap.proofs.Judging.{clear, rules-first, judging-clear, argument-clear, fits-sized, sized-sound}
 use Rattle.heap.proofs.Accesses.{plain-within}
 
 settled-number : {S : Type 0} (k v : ℕ) (old new : S) → settled k old v new .answer .number ≡ k
@@ -48,22 +47,12 @@ module _ (p : ℕ) (h : Heap) where
   shown-by-left = rw left-number (go (eqb (pointerNumber h p) 0) refl)
     where
       go : (b : Bool) → eqb (pointerNumber h p) 0 ≡ b
-          → cond b (take (leftFrom (viewOf h) p) (drop (p - base) (h .arena))) [] ≡ cond b (take (heapCall (Left p) h .answer .value) (drop (p - base) (h .arena))) []
+          → cond b (take (leftFrom (viewOf h) p) (drop (p - base) (h .arena))) []
+          ≡ cond b (take (heapCall (Left p) h .answer .value) (drop (p - base) (h .arena))) []
       go true e = ap (λ (n : ℕ). take n (drop (p - base) (h .arena))) (sym (left-value (eqb-true _ _ e)))
       go false e = refl
 
 -- A call that is not refused.
-first-cons : (k : ℕ) (b : Bool) (rs : List Refusal) → 0 < k → first ((k when b) ∷ rs) ≡ 0 → (b ≡ false) × (first rs ≡ 0)
-first-cons k true rs l z = absurd (omega arith)
-first-cons k false rs l z = (refl, z)
-
-first-append : (xs ys : List Refusal) → positive xs ≡ true → first (xs ++ ys) ≡ 0 → (first xs ≡ 0) × (first ys ≡ 0)
-first-append [] ys q z = (refl, z)
-first-append ((k when b) ∷ xs) ys q z =
-    let (x, y) = first-cons k b (xs ++ ys) (ltb-true 0 k (and-left _ _ q)) z in
-    let (u, w) = first-append xs ys (and-right (ltb 0 k) _ q) y in
-    (ap (λ (c : Bool). cond c k (first xs)) x ∙ u, w)
-
 module _ (c : Call) (a t : List ℕ) where
   abbrev m : ℕ
   m = orderOf (length a)
@@ -72,13 +61,9 @@ module _ (c : Call) (a t : List ℕ) where
   v = heapView m (heapOf a t)
 
   accepted-ready : first (rules m c v) ≡ 0 → Ready m c a t × (first (stateRules m c v) ≡ 0)
-  unfolding rules
   accepted-ready z =
-      let (x, y) = first-cons 8 (v .wrong-sizes) (argumentRules m c ++ (20 when v .damaged ∷ stateRules m c v)) (omega arith) z in
-      let (u, w) = first-append (argumentRules m c) (20 when v .damaged ∷ stateRules m c v) (arguments-positive m c) y in
-      let (d, g) = first-cons 20 (v .damaged) (stateRules m c v) (omega arith) w in
-      let s = fits-sized a t (not-false _ x) in
-      (record { sound = record { low = s .low; high = s .high; size = s .size; slots = s .slots; whole = d }; arguments = u }, g)
+      let (x, u, d, g) = judging-clear (v .wrong-sizes) (first (argumentRules m c)) (v .damaged) (stateRules m c v) (sym (rules-first m c v) ∙ z) in
+      (record { sound = sized-sound a t (fits-sized a t (not-false _ x)) d; arguments = u }, g)
 
 module _ (p : ℕ) (a t : List ℕ) (r : Answer) (e : outcome r a t ≡ heapCall (Left p) (heapOf a t)) where
   abbrev h : Heap
@@ -93,7 +78,7 @@ module _ (p : ℕ) (a t : List ℕ) (r : Answer) (e : outcome r a t ≡ heapCall
 
     pub shown-inside : (base ≤ p) × (p - base + r .value ≤ length a)
     unfolding argumentRules stateRules
-    shown-inside = go (referentOfPointer (viewOf h) p) refl (first-cons 22 _ [] (omega arith) (y .1) .0)
+    shown-inside = go (referentOfPointer (viewOf h) p) refl (clear (stateRules (orderOf (length a)) (Left p) (viewOf h)) refl (y .1) 22)
       where
         y : Ready (orderOf (length a)) (Left p) a t × (first (stateRules (orderOf (length a)) (Left p) (viewOf h)) ≡ 0)
         y = accepted-ready (Left p) a t (sym number-left ∙ z)
@@ -101,7 +86,7 @@ module _ (p : ℕ) (a t : List ℕ) (r : Answer) (e : outcome r a t ≡ heapCall
         go : (f : Referent) → referentOfPointer (viewOf h) p ≡ f → missing f ≡ false → (base ≤ p) × (p - base + r .value ≤ length a)
         go Missing f n = absurd (false≢true (sym n))
         go (Found s k) f n =
-            let w = plain-within (orderOf (length a)) a t (y .0 .sound) p s k (first-cons 13 _ [] (omega arith) (y .0 .arguments) .0) f in
+            let w = plain-within (orderOf (length a)) a t (y .0 .sound) p s k (argument-clear (orderOf (length a)) (Left p) a t (y .0) 13) f in
             let l : r .value ≡ s + 2 ^ k - p = value-left ∙ ap (λ (x : Referent). leftIn x p) f in
             (omega (arith, w .above, w .low), omega (arith, w .above, w .low, w .high, w .inside, y .0 .sound .size))
 

@@ -9,27 +9,24 @@ use native.Mathlib.Omega.{arith}
 use borrow.Author.Tests.{lt-ltb, le-ltb, le-leb, lt-leb, ltb-true}
 use lib.Dec.{leb, ltb}
 use lib.IntN.{ℤ, pos, negsuc, natAbs}
-use lib.ListN.{length}
 use lib.Pow.{pow-mono}
 use Rattle.common.specs.Refusals.{first}
 use Rattle.blocks.specs.Blocks.{floor, missing}
 use Rattle.blocks.specs.Pointers.{markBit, marked, address, sought, referentAt, signed, exactSum, wrappedSum, checkBits, inReach}
-use Rattle.blocks.specs.Orders.{orderOf}
 use Rattle.blocks.specs.Seeking.{fromZero}
 use Rattle.blocks.specs.Tables.{referentIn}
 use Rattle.blocks.specs.declared.Referent.{Referent}
 use Rattle.blocks.specs.declared.Referent.the-variants.{Missing, Found}
 use Rattle.blocks.proofs.Booleans.{and-right, and-both, or-right}
 use Rattle.blocks.proofs.Checks.{check-holds}
-use Rattle.blocks.proofs.Orders.{order-power}
 use Rattle.heap.specs.Views.{View, slotOrder}
 use Rattle.heap.specs.Rules.{beyond, argumentRules, stateRules, rules}
 use Rattle.heap.specs.Effects.{value, stored, settled}
 use Rattle.heap.specs.Heaps.{heapOf, heapView, insideByCheck, entered, heapStep, bit, heapCheck, outcome}
-use Rattle.heap.specs.Judging.{Sound, Ready, Holding, steppedIn}
+use Rattle.heap.specs.Judging.{Ready, Holding, steppedIn}
 use Rattle.heap.specs.declared.Answer.{Answer}
 use Rattle.heap.specs.declared.Call.the-variants.{Step, Left}
-use Rattle.heap.proofs.Judging.{answer, argument-clear, ready-first}
+use Rattle.heap.proofs.Judging.{answer, argument-clear, ready-first, sound-sized}
 
 -- of an address in the lower half, the exact sum is the one that wraps, or is negative, and the one that wraps lies in the upper half
 sum-cases : (q i : ℕ) → q < 2 ^ 31 → (exactSum q i ≡ pos (wrappedSum q i)) ⊎ ((n : ℕ) × (exactSum q i ≡ negsuc n) × (2 ^ 31 ≤ wrappedSum q i))
@@ -151,9 +148,6 @@ module _ (m : ℕ) (a t : List ℕ) (p i s e : ℕ) (f : referentAt (referentIn 
       cases false true = refl
       cases false false = refl
 
-pub sound-order : (m : ℕ) (a t : List ℕ) → Sound m a t → orderOf (length a) ≡ m
-sound-order m a t g = ap orderOf (g .size) ∙ order-power m (g .low) (g .high)
-
 -- the public check, of a plain address that is judged as left's is
 module _ (m : ℕ) (a t : List ℕ) (p i : ℕ) (g : Ready m (Left p) a t) where
   -- the answer where the first refusal is k and the step stays inside as b says
@@ -164,7 +158,7 @@ module _ (m : ℕ) (a t : List ℕ) (p i : ℕ) (g : Ready m (Left p) a t) where
   unfolding heapCheck
   check-is =
       ap (λ (k : ℕ). told k (heapView m (heapOf a t) .inside p i)) (sym (ready-first m (Left p) a t g))
-      ∙ ap (λ (k : ℕ). told (first (rules k (Left p) (heapView k (heapOf a t)))) (heapView k (heapOf a t) .inside p i)) (sym (sound-order m a t (g .sound)))
+      ∙ ap (λ (k : ℕ). told (first (rules k (Left p) (heapView k (heapOf a t)))) (heapView k (heapOf a t) .inside p i)) (sound-sized a t (g .sound) .same)
 
   pub check-missing : referentAt (referentIn slotOrder t) (sought slotOrder p) ≡ Missing → answer 22 0 ≡ heapCheck p i (heapOf a t)
   unfolding stateRules

@@ -1,20 +1,19 @@
 -- What the parts of a call's code say to each other: the contracts of inner functions cite these.
 use Prim.Native.Nat.{ℕ, _+_, _-_, _/_, _^_, _≤_, _<_}
 use mathlib.Core.Path.{_≡_}
-use mathlib.Core.Bool.{false, cond}
-use mathlib.Core.List.{List}
+use mathlib.Core.Bool.{false, not, cond}
+use mathlib.Core.List.{List, [], _∷_}
 use lib.Dec.{eqb}
 use lib.IntN.{natAbs}
 use lib.ListN.{length}
-use Rattle.common.specs.Refusals.{first}
+use Rattle.common.specs.Refusals.{_when_, first}
 use Rattle.blocks.specs.Blocks.{base, floor}
 use Rattle.blocks.specs.Tables.{damagedBy}
 use Rattle.blocks.specs.Pointers.{markBit, exactSum, wrappedSum, checkBits, inReach}
 use Rattle.blocks.specs.declared.Referent.the-variants.{Found}
 use Rattle.blocks.specs.Orders.{orderOf}
 use Rattle.heap.specs.Views.{slotOrder}
-use Rattle.heap.specs.Rules.{argumentRules, rules}
-use Rattle.heap.specs.Heaps.{heapOf, viewOf}
+use Rattle.heap.specs.Rules.{argumentRules}
 use Rattle.heap.specs.declared.Answer.{Answer}
 use Rattle.heap.specs.declared.Call.{Call}
 
@@ -35,11 +34,9 @@ pub record Ready (m : ℕ) (c : Call) (a t : List ℕ) : Type 0 where
   pub sound : Sound m a t
   pub arguments : first (argumentRules m c) ≡ 0
 
--- a call's refusal by its input or by damage; where there is none, the arena's order and what the call may rely on
-pub record Judged (c : Call) (a t : List ℕ) (number order : ℕ) : Type 0 where
-  pub refusal : (number ≡ 0 → ⊥) → number ≡ first (rules (orderOf (length a)) c (viewOf (heapOf a t)))
-  pub same : number ≡ 0 → order ≡ orderOf (length a)
-  pub ready : number ≡ 0 → Ready order c a t
+-- the refusal of a call before the state's: m is the order that the code computes, n the arguments' refusal, 0 for none
+abbrev pub beforeCall : ℕ → ℕ → List ℕ → ℕ
+beforeCall m n t = first (8 when eqb m 0 ∷ n when not (eqb n 0) ∷ 20 when damagedBy slotOrder m t ∷ [])
 
 -- the block of order e at s holds h; q is the address that is stepped from
 pub record Holding (s e h q : ℕ) : Type 0 where

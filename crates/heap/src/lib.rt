@@ -45,99 +45,108 @@ pub fn fresh(arena: &mut [u8], table: &mut [u8]) -> Answer
 pub fn get(arena: &mut [u8], table: &mut [u8], n: u32) -> Answer
     ensures { λ r. ⌜ outcome r (now (arena .exit)) (now (table .exit)) ≡ heapCall (Call.Get n) (heapOf (now (arena .entry)) (now (table .entry))) ⌝ }
 {
-    let j = refusals::judge(arena, table, Call::Get(n));
-    if j.number != 0 {
-        return answers::refused(j.number);
+    let m = refusals::order_of(arena, table);
+    let number = refusals::before_call(table, m, refusals::arguments(m, Call::Get(n)));
+    if number != 0 {
+        return answers::refused(number);
     }
-    unchecked::get(arena, table, j.order, n)
+    unchecked::get(arena, table, m, n)
 }
 
 // Gives the block that starts at p back.
 pub fn give(arena: &[u8], table: &mut [u8], p: u32) -> Answer
     ensures { λ r. ⌜ outcome r (now (arena .entry)) (now (table .exit)) ≡ heapCall (Call.Give p) (heapOf (now (arena .entry)) (now (table .entry))) ⌝ }
 {
-    let j = refusals::judge(arena, table, Call::Give(p));
-    if j.number != 0 {
-        return answers::refused(j.number);
+    let m = refusals::order_of(arena, table);
+    let number = refusals::before_call(table, m, refusals::arguments(m, Call::Give(p)));
+    if number != 0 {
+        return answers::refused(number);
     }
-    unchecked::give(arena, table, j.order, p)
+    unchecked::give(arena, table, m, p)
 }
 
 // The pointer i bytes on from p, i a signed number in two's complement: plain inside p's referent, marked in its reach.
 pub fn step(arena: &[u8], table: &[u8], p: u32, i: u32) -> Answer
     ensures { λ r. ⌜ outcome r (now (arena .entry)) (now (table .entry)) ≡ heapCall (Call.Step p i) (heapOf (now (arena .entry)) (now (table .entry))) ⌝ }
 {
-    let j = refusals::judge(arena, table, Call::Step(p, i));
-    if j.number != 0 {
-        return answers::refused(j.number);
+    let m = refusals::order_of(arena, table);
+    let number = refusals::before_call(table, m, refusals::arguments(m, Call::Step(p, i)));
+    if number != 0 {
+        return answers::refused(number);
     }
-    unchecked::step(arena, table, j.order, p, i)
+    unchecked::step(arena, table, m, p, i)
 }
 
 // The w bytes at p as an unsigned big-endian number.
 pub fn read(arena: &[u8], table: &[u8], p: u32, w: u8) -> Answer
     ensures { λ r. ⌜ outcome r (now (arena .entry)) (now (table .entry)) ≡ heapCall (Call.Read p w) (heapOf (now (arena .entry)) (now (table .entry))) ⌝ }
 {
-    let j = refusals::judge(arena, table, Call::Read(p, w));
-    if j.number != 0 {
-        return answers::refused(j.number);
+    let m = refusals::order_of(arena, table);
+    let number = refusals::before_call(table, m, refusals::arguments(m, Call::Read(p, w)));
+    if number != 0 {
+        return answers::refused(number);
     }
-    unchecked::read(arena, table, j.order, p, w)
+    unchecked::read(arena, table, m, p, w)
 }
 
 // Stores v at p in w bytes, big-endian.
 pub fn write(arena: &mut [u8], table: &[u8], p: u32, w: u8, v: u32) -> Answer
     ensures { λ r. ⌜ outcome r (now (arena .exit)) (now (table .entry)) ≡ heapCall (Call.Write p w v) (heapOf (now (arena .entry)) (now (table .entry))) ⌝ }
 {
-    let j = refusals::judge(arena, table, Call::Write(p, w, v));
-    if j.number != 0 {
-        return answers::refused(j.number);
+    let m = refusals::order_of(arena, table);
+    let number = refusals::before_call(table, m, refusals::arguments(m, Call::Write(p, w, v)));
+    if number != 0 {
+        return answers::refused(number);
     }
-    unchecked::write(arena, table, j.order, p, w, v)
+    unchecked::write(arena, table, m, p, w, v)
 }
 
 // Bytes from p to its referent's end, both counted.
 pub fn left(arena: &[u8], table: &[u8], p: u32) -> Answer
     ensures { λ r. ⌜ outcome r (now (arena .entry)) (now (table .entry)) ≡ heapCall (Call.Left p) (heapOf (now (arena .entry)) (now (table .entry))) ⌝ }
 {
-    let j = refusals::judge(arena, table, Call::Left(p));
-    if j.number != 0 {
-        return answers::refused(j.number);
+    let m = refusals::order_of(arena, table);
+    let number = refusals::before_call(table, m, refusals::arguments(m, Call::Left(p)));
+    if number != 0 {
+        return answers::refused(number);
     }
-    unchecked::left(arena, table, j.order, p)
+    unchecked::left(arena, table, m, p)
 }
 
 // Copies up to n bytes from q to p, as many as both referents hold, in rising order.
 pub fn copy(arena: &mut [u8], table: &[u8], p: u32, q: u32, n: u32) -> Answer
     ensures { λ r. ⌜ outcome r (now (arena .exit)) (now (table .entry)) ≡ heapCall (Call.Copy p q n) (heapOf (now (arena .entry)) (now (table .entry))) ⌝ }
 {
-    let j = refusals::judge(arena, table, Call::Copy(p, q, n));
-    if j.number != 0 {
-        return answers::refused(j.number);
+    let m = refusals::order_of(arena, table);
+    let number = refusals::before_call(table, m, refusals::arguments(m, Call::Copy(p, q, n)));
+    if number != 0 {
+        return answers::refused(number);
     }
-    unchecked::copy(arena, table, j.order, p, q, n)
+    unchecked::copy(arena, table, m, p, q, n)
 }
 
 // Stores v in up to n bytes from p on, as many as its referent holds.
 pub fn fill(arena: &mut [u8], table: &[u8], p: u32, v: u8, n: u32) -> Answer
     ensures { λ r. ⌜ outcome r (now (arena .exit)) (now (table .entry)) ≡ heapCall (Call.Fill p v n) (heapOf (now (arena .entry)) (now (table .entry))) ⌝ }
 {
-    let j = refusals::judge(arena, table, Call::Fill(p, v, n));
-    if j.number != 0 {
-        return answers::refused(j.number);
+    let m = refusals::order_of(arena, table);
+    let number = refusals::before_call(table, m, refusals::arguments(m, Call::Fill(p, v, n)));
+    if number != 0 {
+        return answers::refused(number);
     }
-    unchecked::fill(arena, table, j.order, p, v, n)
+    unchecked::fill(arena, table, m, p, v, n)
 }
 
 // The check of the plain address p and the step i: 1 where the sum stays in p's referent, else 0.
 pub fn check(arena: &[u8], table: &[u8], p: u32, i: u32) -> Answer
     ensures { λ r. ⌜ r ≡ heapCheck p i (heapOf (now (arena .entry)) (now (table .entry))) ⌝ }
 {
-    let j = refusals::judge(arena, table, Call::Left(p));
-    if j.number != 0 {
-        return answers::refused(j.number);
+    let m = refusals::order_of(arena, table);
+    let number = refusals::before_call(table, m, refusals::arguments(m, Call::Left(p)));
+    if number != 0 {
+        return answers::refused(number);
     }
-    unchecked::check(arena, table, j.order, p, i)
+    unchecked::check(arena, table, m, p, i)
 }
 
 // The part of the arena from p to its referent's end, a part and no copy; empty if refused. Its number is the one that left gives.

@@ -1,20 +1,15 @@
 // What a call's input and the table's state decide before the call is carried out.
 use crate::Call;
 ghost use mathlib.Core.Path.{_≡_};
-ghost use Prim.Native.Nat.{_≤_, _^_};
+ghost use Prim.Native.Nat.{_-_, _^_, _≤_};
 ghost use mathlib.Core.Bool.{false};
 ghost use mathlib.Core.List.{[], _∷_};
 ghost use lib.Dec.{leb};
+ghost use lib.ListN.{length};
 ghost use Rattle.common.specs.Refusals.{_when_, first};
 ghost use Rattle.blocks.specs.Pointers.{marked};
 ghost use Rattle.heap.specs.Rules.{badWidth, argumentRules};
-ghost use Rattle.heap.specs.Judging.{Judged, heapOrder};
-
-// A refusal's number, or 0 and the arena's order.
-pub struct Judgement {
-    pub number: u32,
-    pub order: u32,
-}
+ghost use Rattle.heap.specs.Judging.{heapOrder, beforeCall};
 
 // The arena's order, or 0 where the lengths don't fit each other or are none of a heap.
 pub fn order_of(arena: &[u8], table: &[u8]) -> u32
@@ -99,32 +94,17 @@ pub fn arguments(m: u32, c: Call) -> u32
     }
 }
 
-// The refusal of a call by the lengths, its arguments and damage, in this order.
-pub fn judge(arena: &[u8], table: &[u8], c: Call) -> Judgement
-    ensures { λ r. ⌜ Judged c (now (arena .entry)) (now (table .entry)) (r .number) (r .order) ⌝ }
+// The refusal of a call before it is carried out, 0 for none: 8 where the heap has no order m, else the arguments' refusal n, else 20 where
+// the table is damaged.
+pub fn before_call(table: &[u8], m: u32, n: u32) -> u32
+    requires { ⌜ ((m ≡ 0 → ⊥) → (4 ≤ m) × (m ≤ 16) × (length (now table) ≡ 2 ^ (m - 4))) ⌝ }
+    ensures { λ r. ⌜ r ≡ beforeCall m n (now (table .entry)) ⌝ }
 {
-    let m = order_of(arena, table);
     if m == 0 {
-        return Judgement {
-            number: 8,
-            order: 0,
-        };
+        return 8;
     }
-    let n = arguments(m, c);
     if n != 0 {
-        return Judgement {
-            number: n,
-            order: 0,
-        };
+        return n;
     }
-    if blocks::damaged(table, m) {
-        return Judgement {
-            number: 20,
-            order: 0,
-        };
-    }
-    Judgement {
-        number: 0,
-        order: m,
-    }
+    if blocks::damaged(table, m) { 20 } else { 0 }
 }

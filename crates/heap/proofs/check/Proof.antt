@@ -1,24 +1,49 @@
--- `check` meets its contract.
-use mathlib.Core.Path.{_∙_}
+-- `check` meets its contract: by what `order_of`, `arguments` and `before_call` ensure, it is judged as left is; refused, its number is left's,
+-- and else it is `unchecked::check`.
 use borrow.Author.Needs.{needs}
-use Rattle.heap.proofs.Judging.{check-refused}
+use Rattle.heap.specs.declared.Call.the-variants.{Left}
+use Rattle.heap.proofs.Judging.{Ordered, ordered, order-top, order-slots, Judged, judge, check-refused}
 use Rattle.heap.proofs.check.Statement.{statement}
 use Rattle.heap.proofs.check.Tie as tie
 
-judge-requires : tie.Need-judge-requires
-judge-requires c κs = search needs
+-- once the order is known
+module _ (c : tie.After-order-of) where
+  abbrev start : tie.Start
+  start = c .before .before .before
+
+  order : Ordered (start .args .arena .now) (start .args .table .now) (c .order-of .result)
+  order = ordered (c .order-of .ensures)
+
+-- once the call is judged
+module _ (c : tie.After-before-call) where
+  abbrev o : tie.After-order-of
+  o = c .before .before
+
+  judged : let a = start o .args in Judged (Left (a .p)) (a .arena .now) (a .table .now) (c .before-call .result) (o .order-of .result)
+  judged = judge (order o) (c .before .arguments .ensures) (c .before-call .ensures)
+
+order-of-requires : tie.Need-order-of-requires
+order-of-requires c κs = search needs
+
+arguments-requires : tie.Need-arguments-requires
+arguments-requires c κs = order-top (order c)
+
+before-call-requires : tie.Need-before-call-requires
+before-call-requires c κs = order-slots (order (c .before))
 
 refused-requires : tie.Need-refused-requires
 refused-requires c κs = search needs
 
 returns : tie.Need-returns
-returns c = c .refused .ensures ∙ check-refused (c .before .before .before .before .before .before .args .i) (c .before .before .before .judge .ensures) (c .before .if1 .taken)
+returns c = check-refused _ (judged (c .before .before)) (c .before .if1 .taken) (c .refused .ensures)
 
 check-requires : tie.Need-check-requires
-check-requires c κs = c .before .before .judge .ensures .ready (c .if1 .left)
+check-requires c κs = judged (c .before) .ready (c .if1 .left)
 
 returns-2 : tie.Need-returns-2
 returns-2 c = c .check .ensures
 
 pub check-spec : {M : Type 1} → statement M
-check-spec = tie.close (tie.spec judge-requires refused-requires returns check-requires returns-2)
+check-spec =
+    tie.close
+    (tie.spec order-of-requires arguments-requires before-call-requires refused-requires returns check-requires returns-2)

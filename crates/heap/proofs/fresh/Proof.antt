@@ -1,11 +1,16 @@
--- `fresh` meets its contract.
-use mathlib.Core.Path.{_∙_, ap}
+-- `fresh` meets its contract: what `order_of` ensures says whether the lengths fit, and where they do the two fills leave all zero.
 use borrow.Author.Needs.{needs}
-use Rattle.heap.specs.Heaps.{outcome}
-use Rattle.heap.specs.declared.Answer.{Answer}
-use Rattle.heap.proofs.Judging.{fresh-refused, fresh-done}
+use Rattle.heap.proofs.Judging.{Ordered, ordered, fresh-refused, fresh-done}
 use Rattle.heap.proofs.fresh.Statement.{statement}
 use Rattle.heap.proofs.fresh.Tie as tie
+
+-- once the order is known
+module _ (c : tie.After-order-of) where
+  abbrev start : tie.Start
+  start = c .before .before .before .before .before
+
+  order : Ordered (start .args .arena .now) (start .args .table .now) (c .order-of .result)
+  order = ordered (c .order-of .ensures)
 
 order-of-requires : tie.Need-order-of-requires
 order-of-requires c κs = search needs
@@ -20,10 +25,7 @@ same-length-2 : tie.Need-same-length-2
 same-length-2 c = search needs
 
 returns : tie.Need-returns
-returns c =
-    let a = c .before .before .before .before .before .before .before .args in
-    let o = c .before .before .order-of in
-    ap (λ (x : Answer). outcome x (a .arena .now) (a .table .now)) (c .refused .ensures) ∙ fresh-refused (a .arena .now) (a .table .now) (o .result) (o .ensures) (c .before .if1 .taken)
+returns c = fresh-refused (order (c .before .before)) (c .before .if1 .taken) (c .refused .ensures)
 
 fill-requires : tie.Need-fill-requires
 fill-requires c κs = search needs
@@ -42,14 +44,13 @@ same-length-4 c = search needs
 
 returns-2 : tie.Need-returns-2
 returns-2 c =
-    let a = c .before .before .before .before .before .before .before .before .before .before .before .before .before .before .before .args in
-    let o = c .before .before .before .before .before .before .before .before .before .before .order-of in
-    let x = c .before .before .before .before .before .before .before .fill in
-    let y = c .before .before .before .fill2 in
-    ap (λ (r : Answer). outcome r (x .last .0) (y .last .0)) (c .accepted .ensures)
-    ∙ fresh-done (a .arena .now) (a .table .now) (o .result) (o .ensures) (c .before .before .before .before .before .before .before .before .before .if1 .left) (x .last .0) (y .last .0) (x .ensures) (y .ensures)
+    let table : tie.After-fill2 = c .before .before .before in
+    let arena : tie.After-fill = table .before .before .before .before in
+    let sized : tie.Else1 = arena .before .before in
+    fresh-done (order (sized .before)) (sized .if1 .left) (c .accepted .ensures) (arena .fill .ensures) (table .fill2 .ensures)
 
 pub fresh-spec : {M : Type 1} → statement M
 fresh-spec =
     tie.close
-    (tie.spec order-of-requires refused-requires same-length same-length-2 returns fill-requires fill-requires-2 accepted-requires same-length-3 same-length-4 returns-2)
+    (tie.spec order-of-requires refused-requires same-length same-length-2 returns fill-requires fill-requires-2 accepted-requires same-length-3
+    same-length-4 returns-2)

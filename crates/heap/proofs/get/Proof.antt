@@ -1,14 +1,35 @@
--- `get` meets its contract.
-use mathlib.Core.Path.{_∙_, ap}
+-- `get` meets its contract: by what `order_of`, `arguments` and `before_call` ensure, the call is judged; refused, it leaves the heap as it was,
+-- and else it is `unchecked::get` with the order that the arena has.
 use borrow.Author.Needs.{needs}
-use Rattle.heap.specs.Heaps.{outcome}
-use Rattle.heap.specs.declared.Answer.{Answer}
-use Rattle.heap.proofs.Judging.{judged-refused, judged-call}
+use Rattle.heap.specs.declared.Call.the-variants.{Get}
+use Rattle.heap.proofs.Judging.{Ordered, ordered, order-top, order-slots, Judged, judge, judged-refused, judged-call}
 use Rattle.heap.proofs.get.Statement.{statement}
 use Rattle.heap.proofs.get.Tie as tie
 
-judge-requires : tie.Need-judge-requires
-judge-requires c κs = search needs
+-- once the order is known
+module _ (c : tie.After-order-of) where
+  abbrev start : tie.Start
+  start = c .before .before .before .before .before
+
+  order : Ordered (start .args .arena .now) (start .args .table .now) (c .order-of .result)
+  order = ordered (c .order-of .ensures)
+
+-- once the call is judged
+module _ (c : tie.After-before-call) where
+  abbrev o : tie.After-order-of
+  o = c .before .before .before
+
+  judged : let a = start o .args in Judged (Get (a .n)) (a .arena .now) (a .table .now) (c .before-call .result) (o .order-of .result)
+  judged = judge (order o) (c .before .arguments .ensures) (c .before-call .ensures)
+
+order-of-requires : tie.Need-order-of-requires
+order-of-requires c κs = search needs
+
+arguments-requires : tie.Need-arguments-requires
+arguments-requires c κs = order-top (order (c .before))
+
+before-call-requires : tie.Need-before-call-requires
+before-call-requires c κs = order-slots (order (c .before .before))
 
 refused-requires : tie.Need-refused-requires
 refused-requires c κs = search needs
@@ -20,12 +41,10 @@ same-length-2 : tie.Need-same-length-2
 same-length-2 c = search needs
 
 returns : tie.Need-returns
-returns c =
-    let a = c .before .before .before .before .before .before .before .before .args in
-    ap (λ (x : Answer). outcome x (a .arena .now) (a .table .now)) (c .refused .ensures) ∙ judged-refused (c .before .before .before .judge .ensures) (c .before .if1 .taken)
+returns c = judged-refused (judged (c .before .before)) (c .before .if1 .taken) (c .refused .ensures)
 
 get-requires : tie.Need-get-requires
-get-requires c κs = c .before .before .before .before .judge .ensures .ready (c .before .before .if1 .left)
+get-requires c κs = let e = c .before .before in judged (e .before) .ready (e .if1 .left)
 
 same-length-3 : tie.Need-same-length-3
 same-length-3 c = search needs
@@ -34,7 +53,13 @@ same-length-4 : tie.Need-same-length-4
 same-length-4 c = search needs
 
 returns-2 : tie.Need-returns-2
-returns-2 c = judged-call (c .before .before .before .before .before .before .before .before .before .judge .ensures) (c .before .before .before .before .before .before .before .if1 .left) (c .before .before .before .before .get .ensures)
+returns-2 c =
+    let done : tie.After-get = c .before .before .before .before in
+    let accepted : tie.Else1 = done .before .before .before in
+    judged-call (judged (accepted .before)) (accepted .if1 .left) (done .get .ensures)
 
 pub get-spec : {M : Type 1} → statement M
-get-spec = tie.close (tie.spec judge-requires refused-requires same-length same-length-2 returns get-requires same-length-3 same-length-4 returns-2)
+get-spec =
+    tie.close
+    (tie.spec order-of-requires arguments-requires before-call-requires refused-requires same-length same-length-2 returns get-requires
+    same-length-3 same-length-4 returns-2)

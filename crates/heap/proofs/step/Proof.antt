@@ -1,28 +1,47 @@
--- `step` meets its contract.
-use mathlib.Core.Path.{_∙_, ap}
+-- `step` meets its contract: by what `order_of`, `arguments` and `before_call` ensure, the call is judged; refused, it leaves the heap as it was,
+-- and else it is `unchecked::step` with the order that the arena has.
 use borrow.Author.Needs.{needs}
-use Rattle.heap.specs.Heaps.{outcome}
-use Rattle.heap.specs.declared.Answer.{Answer}
-use Rattle.heap.proofs.Judging.{judged-refused, judged-call}
+use Rattle.heap.specs.declared.Call.the-variants.{Step}
+use Rattle.heap.proofs.Judging.{Ordered, ordered, order-top, order-slots, Judged, judge, judged-refused, judged-call}
 use Rattle.heap.proofs.step.Statement.{statement}
 use Rattle.heap.proofs.step.Tie as tie
 
-judge-requires : tie.Need-judge-requires
-judge-requires c κs = search needs
+-- once the order is known
+module _ (c : tie.After-order-of) where
+  abbrev start : tie.Start
+  start = c .before .before .before
+
+  order : Ordered (start .args .arena .now) (start .args .table .now) (c .order-of .result)
+  order = ordered (c .order-of .ensures)
+
+-- once the call is judged
+module _ (c : tie.After-before-call) where
+  abbrev o : tie.After-order-of
+  o = c .before .before
+
+  judged : let a = start o .args in Judged (Step (a .p) (a .i)) (a .arena .now) (a .table .now) (c .before-call .result) (o .order-of .result)
+  judged = judge (order o) (c .before .arguments .ensures) (c .before-call .ensures)
+
+order-of-requires : tie.Need-order-of-requires
+order-of-requires c κs = search needs
+
+arguments-requires : tie.Need-arguments-requires
+arguments-requires c κs = order-top (order c)
+
+before-call-requires : tie.Need-before-call-requires
+before-call-requires c κs = order-slots (order (c .before))
 
 refused-requires : tie.Need-refused-requires
 refused-requires c κs = search needs
 
 returns : tie.Need-returns
-returns c =
-    let a = c .before .before .before .before .before .before .args in
-    ap (λ (x : Answer). outcome x (a .arena .now) (a .table .now)) (c .refused .ensures) ∙ judged-refused (c .before .before .before .judge .ensures) (c .before .if1 .taken)
+returns c = judged-refused (judged (c .before .before)) (c .before .if1 .taken) (c .refused .ensures)
 
 step-requires : tie.Need-step-requires
-step-requires c κs = c .before .before .judge .ensures .ready (c .if1 .left)
+step-requires c κs = judged (c .before) .ready (c .if1 .left)
 
 returns-2 : tie.Need-returns-2
-returns-2 c = judged-call (c .before .before .before .judge .ensures) (c .before .if1 .left) (c .step .ensures)
+returns-2 c = judged-call (judged (c .before .before)) (c .before .if1 .left) (c .step .ensures)
 
 pub step-spec : {M : Type 1} → statement M
-step-spec = tie.close (tie.spec judge-requires refused-requires returns step-requires returns-2)
+step-spec = tie.close (tie.spec order-of-requires arguments-requires before-call-requires refused-requires returns step-requires returns-2)

@@ -1,39 +1,26 @@
--- `unchecked::call` meets its contract.
-use Prim.Native.Nat.{ℕ, _-_, _*_, _/_, _^_}
+-- `unchecked::call` meets its contract: its arguments refuse the call, or each arm is the call's own function, which they make ready.
+use Prim.Native.Nat.{ℕ}
 use mathlib.Core.Path.{_≡_, _∙_, sym, ap, subst}
-use mathlib.Core.Bool.{Bool, cond}
 use mathlib.Core.List.{List}
-use native.Mathlib.Omega.{arith}
 use borrow.Author.Needs.{needs}
-use borrow.Author.Tests.{eq-eqb}
-use lib.ListN.{length}
+use borrow.Author.Tests.{ne-eqb}
 use Rattle.common.specs.Refusals.{first}
-use Rattle.blocks.specs.Orders.{orderOf}
-use Rattle.blocks.proofs.Floors.{pow-split}
-use Rattle.heap.specs.Rules.{argumentRules}
+use Rattle.heap.specs.Rules.{argumentRules, rules}
 use Rattle.heap.specs.Effects.{Outcome}
-use Rattle.heap.specs.Heaps.{Heap, heapOf, heapStep, heapCall, outcome}
-use Rattle.heap.specs.Judging.{heapOrder, Sound, Ready}
+use Rattle.heap.specs.Heaps.{Heap, heapOf, heapView, heapStep, outcome}
+use Rattle.heap.specs.Judging.{Sound, Ready}
+use Rattle.heap.specs.declared.Answer.{Answer}
 use Rattle.heap.specs.declared.Call.{Call}
-use Rattle.heap.proofs.Judging.{answer, judged-arguments, judged-refused}
-use Rattle.heap.proofs.Stepping.{sound-order}
+use Rattle.heap.proofs.Judging.{answer, rules-first, sound-sized, sizes-right, refused-step}
 use Rattle.heap.proofs.unchecked.call.Statement.{statement}
 use Rattle.heap.proofs.unchecked.call.Tie as tie
 
 -- a call that its arguments alone refuse
 module _ (m : ℕ) (c : Call) (a t : List ℕ) (s : Sound m a t) where
-  order-computed : m ≡ heapOrder a t
-  unfolding heapOrder
-  order-computed =
-      let p : 2 ^ m ≡ 2 ^ (m - 4) * 2 ^ 4 = pow-split 4 m (omega (arith, s .low)) in
-      let q : length a / 16 ≡ length t = omega (arith, s .size, s .slots) in
-      sym (ap (λ (b : Bool). cond b (orderOf (length a)) 0) (eq-eqb _ _ q) ∙ sound-order m a t s)
-
-  argument-refused : (k : ℕ) → k ≡ first (argumentRules m c) → (k ≡ 0 → ⊥) → outcome (answer k 0) a t ≡ heapStep m c (heapOf a t)
-  unfolding heapCall
-  argument-refused k q n =
-      judged-refused (judged-arguments c a t m order-computed (λ z. omega (arith, s .low)) k q n) n
-      ∙ ap (λ (o : ℕ). heapStep o c (heapOf a t)) (sound-order m a t s)
+  argument-refused : {k : ℕ} {r : Answer} → k ≡ first (argumentRules m c) → (k ≡ 0 → ⊥) → r ≡ answer k 0 → outcome r a t ≡ heapStep m c (heapOf a t)
+  argument-refused {k = k} q n e =
+      let x : k ≡ first (rules m c (heapView m (heapOf a t))) = rw (rules-first, sizes-right a t (sound-sized a t s), ← q, ne-eqb k 0 n) in
+      refused-step m c a t x n e
 
 -- c is the call x, of which nothing is refused by the arguments
 module _ (c : tie.Else1) (x : Call) (q : c .before .before .before .before .args .c ≡ x) where
@@ -58,8 +45,7 @@ refused-requires c κs = search needs
 returns : tie.Need-returns
 returns c =
     let entry = c .before .before .before .before .before in
-    ap (λ x. outcome x (entry .args .arena .now) (entry .args .table .now)) (c .refused .ensures)
-    ∙ argument-refused _ _ _ _ (entry .pre) _ (c .before .before .arguments .ensures) (c .before .if1 .taken)
+    argument-refused _ _ _ _ (entry .pre) (c .before .before .arguments .ensures) (c .before .if1 .taken) (c .refused .ensures)
 
 enum-known-c : tie.Need-enum-known-c
 enum-known-c c = search needs

@@ -57,7 +57,10 @@ needed-order-requires : tie.Need-needed-order-requires
 needed-order-requires c κs = let s = c .before .before .pre .sound in (omega (arith, s .low), s .high)
 
 find-place-requires : tie.Need-find-place-requires
-find-place-requires c κs = let k = c .before in (order-needed k .low, order-needed k .high, entry k .pre .sound .high, entry k .pre .sound .slots)
+find-place-requires c κs =
+    let k = c .before in
+    let s = entry k .pre .sound in
+    (order-needed k .low, order-needed k .high, s .high, s .slots, s .whole)
 
 enum-told : tie.Need-enum-told
 enum-told c = search needs

@@ -1,0 +1,211 @@
+-- `by_slots` meets its contract. Both loops are left by `break 'scan` at the first damage.
+-- The outer loop's invariant: every slot passed is good. The inner loop's: every slot of the range that was passed has the entry e.
+-- The measures are what is left of the table and of the range.
+use mathlib.Core.Bool.{false}
+use mathlib.Core.List.{List}
+use mathlib.Core.Path.{_≡_, refl, sym, _∙_, ap}
+use Prim.Native.Nat.{ℕ, _+_, _-_, _*_, _/_, _^_, _≤_, _<_}
+use native.Mathlib.Omega.{arith}
+use borrow.Author.Needs.{needs}
+use borrow.Author.Count.{below-none, below-more}
+use denote.Ref.{now}
+use lib.ListN.{length, getD}
+use lib.Pow.{pow-pos}
+use Rattle.blocks.specs.Blocks.{floor}
+use Rattle.blocks.proofs.Floors.{floor-le, lt-floor, floor-end}
+use Rattle.blocks.proofs.Tables.{Good, Whole, damaged-at, undamaged, low-bad, high-bad, torn-bad, whole-good}
+use Rattle.blocks.proofs.Rows.{not-free, single-good, below-both}
+use Rattle.blocks.proofs.scan.by_slots.Statement.{statement}
+use Rattle.blocks.proofs.scan.by_slots.Tie as tie
+
+abbrev Inv-block : tie.InvT-block
+Inv-block table m found₀ i x e slots from to k₀ found k =
+    (found ≡ false) × (from ≡ floor (e - 4) i) × (to ≡ floor (e - 4) i + 2 ^ (e - 4)) × (to ≤ length table) × (from ≤ k) × (k ≤ to)
+    × ((j : ℕ) → j < k → from ≤ j → getD table j 0 ≡ e)
+
+abbrev μ-block : tie.MeasureT-block
+μ-block table m found₀ i x e slots from to k₀ found k = to - k
+
+abbrev Inv-scan : tie.InvT-scan
+Inv-scan table m found₀ i₀ found i = (found ≡ false) × (i ≤ length table) × ((j : ℕ) → j < i → Good 4 m table j)
+
+abbrev μ-scan : tie.MeasureT-scan
+μ-scan table m found₀ i₀ found i = length table - i
+
+-- in the outer loop: the table, the order, the slot, and what is known of the slots before it
+module _ (c : tie.In-scan Inv-block μ-block Inv-scan μ-scan) where
+  abbrev table : List ℕ
+  table = now (c .before .before .before .args .table)
+
+  abbrev top : ℕ
+  top = c .before .before .before .args .m
+
+  abbrev slot : ℕ
+  slot = c .before .scan .i
+
+  passed : (j : ℕ) → j < slot → Good 4 top table j
+  passed = c .before .scan .inv .2
+
+  top-low : 4 ≤ top
+  top-low = c .before .before .before .pre .0
+
+-- where the entry is an order: the entry, and the range round the slot
+module _ (c : tie.Else3 Inv-block μ-block Inv-scan μ-scan) where
+  abbrev turn : tie.In-scan Inv-block μ-block Inv-scan μ-scan
+  turn = c .before .before .before .before .before .before
+
+  abbrev entry : ℕ
+  entry = c .before .before .wide .result
+
+  taken : entry ≡ 0 → ⊥
+  taken z = omega (arith, c .before .if2 .left)
+
+  ends : floor (entry - 4) (slot turn) + 2 ^ (entry - 4) ≤ length (table turn)
+  ends =
+      let len = turn .before .before .before .pre .2 in
+      rw len (floor-end (entry - 4) _ (slot turn) (omega (arith, c .if3 .left)) (rw len at (turn .scan-test .taken)))
+
+-- its bounds, as the code computes them
+module _ (c : tie.After-slots-of Inv-block μ-block Inv-scan μ-scan) where
+  abbrev from : ℕ
+  from = slot (turn (c .before)) / c .slots-of .result * c .slots-of .result
+
+  from-is : from ≡ floor (entry (c .before) - 4) (slot (turn (c .before)))
+  unfolding floor
+  from-is = ap (λ (x : ℕ). slot (turn (c .before)) / x * x) (c .slots-of .ensures)
+
+scan-holds : tie.Need-scan-holds Inv-block μ-block Inv-scan μ-scan
+scan-holds c = (refl, omega arith, below-none _)
+
+shared-slice-read-x : tie.Need-shared-slice-read-x Inv-block μ-block Inv-scan μ-scan
+shared-slice-read-x c = omega arith
+
+is-single-requires : tie.Need-is-single-requires Inv-block μ-block Inv-scan μ-scan
+is-single-requires c κs = search needs
+
+add-i : tie.Need-add-i Inv-block μ-block Inv-scan μ-scan
+add-i c = omega arith
+
+scan-less : tie.Need-scan-less Inv-block μ-block Inv-scan μ-scan
+scan-less c = omega arith
+
+scan-again : tie.Need-scan-again Inv-block μ-block Inv-scan μ-scan
+scan-again c =
+    let o = c .before .before .before in
+    let one = single-good 4 (top o) (table o) (slot o) (λ z. omega arith) (top-low o) (sym (c .before .is-single .ensures) ∙ c .if1 .taken) in
+    (o .before .scan .inv .0, omega arith, below-more _ _ (passed o) one)
+
+wide-requires : tie.Need-wide-requires Inv-block μ-block Inv-scan μ-scan
+wide-requires c κs = search needs
+
+slots-of-requires : tie.Need-slots-of-requires Inv-block μ-block Inv-scan μ-scan
+slots-of-requires c κs = omega arith
+
+div-from : tie.Need-div-from Inv-block μ-block Inv-scan μ-scan
+div-from c = rw (c .slots-of .ensures) (pow-pos _)
+
+mul-from : tie.Need-mul-from Inv-block μ-block Inv-scan μ-scan
+mul-from c = omega (arith, from-is c, ends (c .before))
+
+add-to : tie.Need-add-to Inv-block μ-block Inv-scan μ-scan
+add-to c = omega (arith, from-is c, c .slots-of .ensures, ends (c .before))
+
+block-holds : tie.Need-block-holds Inv-block μ-block Inv-scan μ-scan
+block-holds c =
+    let low = from-is c in
+    let size = c .slots-of .ensures in
+    let found = turn (c .before) .before .scan .inv .0 in
+    (found, low, omega arith, omega (arith, ends (c .before)), omega arith, omega arith, λ j l g. omega arith)
+
+shared-slice-read-if4 : tie.Need-shared-slice-read-if4 Inv-block μ-block Inv-scan μ-scan
+shared-slice-read-if4 c = omega arith
+
+add-k : tie.Need-add-k Inv-block μ-block Inv-scan μ-scan
+add-k c = omega arith
+
+block-less : tie.Need-block-less Inv-block μ-block Inv-scan μ-scan
+block-less c = omega arith
+
+block-again : tie.Need-block-again Inv-block μ-block Inv-scan μ-scan
+block-again c =
+    let b = c .before .before .before in
+    let inv = b .block .inv in
+    let same = c .if4 .left ∙ sym (b .before .before .before .before .wide .ensures) in
+    (inv .0, inv .1, inv .2, inv .3, omega arith, omega arith, below-more _ _ (inv .6) (λ _. same))
+
+scan-less-2 : tie.Need-scan-less-2 Inv-block μ-block Inv-scan μ-scan
+scan-less-2 c =
+    let o = c .before .before .before in
+    let inv = c .before .block .inv in
+    omega (arith, inv .2, inv .3, lt-floor (entry o - 4) (slot (turn o)), turn o .scan-test .taken)
+
+scan-again-2 : tie.Need-scan-again-2 Inv-block μ-block Inv-scan μ-scan
+scan-again-2 c =
+    let o = c .before .before .before in
+    let u = turn o in
+    let inv = c .before .block .inv in
+    let w : Whole 4 (top u) (table u) (slot u) (entry o) =
+    record { low = o .before .if2 .left; high = o .if3 .left; entries = λ k lo hi. inv .6 k (omega (arith, inv .2)) (omega (arith, inv .1)) } in
+    let block = whole-good 4 (top u) (table u) (slot u) (entry o) (taken o) w in
+    let low = floor-le (entry o - 4) (slot u) in
+    (inv .0, inv .3, below-both (Good 4 (top u) (table u)) (slot u) _ (passed u) (λ j lo hi. block j (omega arith) (omega (arith, inv .2))))
+
+returns : tie.Need-returns Inv-block μ-block Inv-scan μ-scan
+returns c = c .before .scan .inv .0 ∙ sym (undamaged 4 _ _ (λ j l. c .before .scan .inv .2 j (omega arith)))
+
+returns-2 : tie.Need-returns-2 Inv-block μ-block Inv-scan μ-scan
+returns-2 c =
+    let w = c .before in
+    let u = w .before .before .before .before in
+    let none = not-free 4 _ (sym (w .before .before .is-single .ensures) ∙ w .before .if1 .left) in
+    sym (damaged-at 4 (top u) (table u) (slot u) (w .wide .result) (u .scan-test .taken) (w .wide .ensures)
+    (low-bad 4 _ _ _ _ (λ z. none (sym (w .wide .ensures) ∙ z)) (c .if2 .taken)))
+
+returns-3 : tie.Need-returns-3 Inv-block μ-block Inv-scan μ-scan
+returns-3 c =
+    let w = c .before .before in
+    let u = w .before .before .before .before in
+    sym (damaged-at 4 (top u) (table u) (slot u) (w .wide .result) (u .scan-test .taken) (w .wide .ensures)
+    (high-bad 4 _ _ _ _ (λ z. omega (arith, c .before .if2 .left)) (c .before .if2 .left) (c .if3 .taken)))
+
+returns-4 : tie.Need-returns-4 Inv-block μ-block Inv-scan μ-scan
+returns-4 c =
+    let b = c .before .before .before in
+    let inv = b .block .inv in
+    let o = b .before .before in
+    let u = turn o in
+    let w = o .before .before .wide .ensures in
+    sym (damaged-at 4 (top u) (table u) (slot u) (entry o) (u .scan-test .taken) w
+    (torn-bad 4 (top u) (table u) (slot u) (entry o) (b .block .k) (taken o) (o .before .if2 .left) (o .if3 .left)
+    (omega (arith, inv .1, inv .4)) (omega (arith, inv .2)) (λ q. c .if4 .taken (q ∙ w))))
+
+pub by-slots-spec : {M : Type 1} → statement M
+by-slots-spec =
+    tie.close
+    (tie.spec
+    Inv-block
+    μ-block
+    Inv-scan
+    μ-scan
+    scan-holds
+    shared-slice-read-x
+    is-single-requires
+    add-i
+    scan-less
+    scan-again
+    wide-requires
+    slots-of-requires
+    div-from
+    mul-from
+    add-to
+    block-holds
+    shared-slice-read-if4
+    add-k
+    block-less
+    block-again
+    scan-less-2
+    scan-again-2
+    returns
+    returns-2
+    returns-3
+    returns-4)

@@ -1,0 +1,30 @@
+-- `row_damaged` meets its contract.
+use mathlib.Core.Path.{sym, _∙_}
+use native.Mathlib.Omega.{arith}
+use borrow.Author.Needs.{needs}
+use denote.Ref.{now}
+use lib.ListN.{getD}
+use Rattle.blocks.specs.Searching.{inRow}
+use Rattle.blocks.proofs.Booleans.{and-left, and-right}
+use Rattle.blocks.proofs.Rows.{even-undamaged}
+use Rattle.blocks.proofs.scan.row_damaged.Statement.{statement}
+use Rattle.blocks.proofs.scan.row_damaged.Tie as tie
+
+even-requires : tie.Need-even-requires
+even-requires c κs = search needs
+
+returns : tie.Need-returns
+returns c =
+    let s = c .before .before .before in
+    let row = now (s .args .row) in
+    let h = sym (c .before .even .ensures) ∙ c .if1 .taken in
+    sym (even-undamaged 4 (getD row 0 0) row (λ z. omega arith) (s .pre) (and-left _ _ h) (and-right (inRow 4 (getD row 0 0)) _ h))
+
+by-slots-requires : tie.Need-by-slots-requires
+by-slots-requires c κs = search needs
+
+returns-2 : tie.Need-returns-2
+returns-2 c = search needs
+
+pub row-damaged-spec : {M : Type 1} → statement M
+row-damaged-spec = tie.close (tie.spec even-requires returns by-slots-requires returns-2)

@@ -1,0 +1,155 @@
+// The damage scan: an outer loop over slots and an inner one over the aligned range round a slot, left by label at the first difference. A table of rows is
+// passed row by row, and slot by slot only where a row's slots are not alike.
+ghost use mathlib.Core.Path.{_≡_};
+ghost use mathlib.Core.Bool.{_&&_};
+ghost use lib.ListN.{length, getD};
+ghost use Prim.Native.Nat.{_-_, _^_, _≤_};
+ghost use Rattle.blocks.specs.Placing.{allFree};
+ghost use Rattle.blocks.specs.Tables.{damagedBy};
+ghost use Rattle.blocks.specs.Searching.{hasEntry, single, inRow};
+use crate::ROW;
+use crate::ROW_ORDER;
+use crate::SLOT_ORDER;
+use crate::slots_of;
+use crate::wide;
+
+// Whether the table of an arena of order m is damaged. A block that is found whole is passed whole, so that each slot is looked at once, or twice where
+// it is the first of a block.
+pub fn by_slots(table: &[u8], m: u32) -> bool
+    requires { ⌜ (4 ≤ m) × (m ≤ 16) × (length (now table) ≡ 2 ^ (m - 4)) ⌝ }
+    ensures { λ r. ⌜ r ≡ damagedBy 4 m (now (table .entry)) ⌝ }
+{
+    let mut found = false;
+    let mut i = 0usize;
+    'scan: while i < table.len() {
+        let x = table[i];
+        if is_single(x) {
+            i += 1;
+            continue 'scan;
+        }
+        let e = wide(x);
+        if e < SLOT_ORDER {
+            found = true;
+            break 'scan;
+        }
+        if m < e {
+            found = true;
+            break 'scan;
+        }
+        let slots = slots_of(e);
+        let from = i / slots * slots;
+        let to = from + slots;
+        let mut k = from;
+        'block: while k < to {
+            if table[k] != x {
+                found = true;
+                break 'scan;
+            }
+            k += 1;
+        }
+        i = to;
+    }
+    found
+}
+
+// The same for a table of rows: a row of blocks that lie in it is a table of its own, and a larger block has rows alike.
+pub fn by_rows(table: &[u8], m: u32) -> bool
+    requires { ⌜ (8 ≤ m) × (m ≤ 16) × (length (now table) ≡ 2 ^ (m - 4)) ⌝ }
+    ensures { λ r. ⌜ r ≡ damagedBy 4 m (now (table .entry)) ⌝ }
+{
+    let mut found = false;
+    let mut i = 0usize;
+    'scan: while i < table.len() {
+        let x = table[i];
+        let e = wide(x);
+        if e <= ROW_ORDER {
+            let end = i + ROW;
+            if row_damaged(&table[i..end]) {
+                found = true;
+                break 'scan;
+            }
+            i = end;
+            continue 'scan;
+        }
+        if m < e {
+            found = true;
+            break 'scan;
+        }
+        let slots = slots_of(e);
+        let from = i / slots * slots;
+        let to = from + slots;
+        let mut at = from;
+        'block: while at < to {
+            let end = at + ROW;
+            if !alike(&table[at..end], x) {
+                found = true;
+                break 'scan;
+            }
+            at = end;
+        }
+        i = to;
+    }
+    found
+}
+
+// Whether a row, as the table of an arena of as many slots, is damaged.
+fn row_damaged(row: &[u8]) -> bool
+    requires { ⌜ length (now row) ≡ 16 ⌝ }
+    ensures { λ r. ⌜ r ≡ damagedBy 4 8 (now (row .entry)) ⌝ }
+{
+    if even(row) {
+        return false;
+    }
+    by_slots(row, ROW_ORDER)
+}
+
+// Whether the slots of a row are all free, or all of blocks of one order that lie in it.
+fn even(row: &[u8]) -> bool
+    requires { ⌜ length (now row) ≡ 16 ⌝ }
+    ensures { λ r. ⌜ r ≡ inRow 4 (getD (now (row .entry)) 0 0) && allFree (hasEntry (now (row .entry)) (getD (now (row .entry)) 0 0)) 0 16 ⌝ }
+{
+    let x = row[0];
+    if !in_a_row(x) {
+        return false;
+    }
+    alike(row, x)
+}
+
+// Whether the entry x is of a free slot, or of a block of at most a row.
+fn in_a_row(x: u8) -> bool
+    ensures { λ r. ⌜ r ≡ inRow 4 x ⌝ }
+{
+    if x == 0 {
+        return true;
+    }
+    if wide(x) < SLOT_ORDER {
+        return false;
+    }
+    wide(x) <= ROW_ORDER
+}
+
+// Whether each slot of a row has the entry x. It looks at every slot, so that the compiler compares them at once.
+fn alike(row: &[u8], x: u8) -> bool
+    requires { ⌜ length (now row) ≡ 16 ⌝ }
+    ensures { λ r. ⌜ r ≡ allFree (hasEntry (now (row .entry)) x) 0 16 ⌝ }
+{
+    let mut same = true;
+    let mut i = ROW;
+    while 0 < i {
+        i -= 1;
+        if row[i] != x {
+            same = false;
+        }
+    }
+    same
+}
+
+// Whether an entry speaks of its slot alone: the slot is free, or a block.
+fn is_single(x: u8) -> bool
+    ensures { λ r. ⌜ r ≡ single 4 x ⌝ }
+{
+    if x == 0 {
+        return true;
+    }
+    wide(x) == SLOT_ORDER
+}
