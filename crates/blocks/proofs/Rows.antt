@@ -13,7 +13,7 @@ use Rattle.blocks.specs.Blocks.{floor}
 use Rattle.blocks.specs.Tables.{bad, damagedBy}
 use Rattle.blocks.specs.Placing.{allFree}
 use Rattle.blocks.specs.Searching.{hasEntry, single, inRow}
-use Rattle.blocks.proofs.Booleans.{and-left, and-right}
+use Rattle.blocks.proofs.Booleans.{and-left, and-right, or-right}
 use Rattle.blocks.proofs.Floors.{floor-le, lt-floor, floor-end, floor-quotient, pow-split}
 use Rattle.blocks.proofs.Runs.{all-at, at-all}
 use Rattle.blocks.proofs.Tables.{Good, Whole, undamaged, undamaged-whole, free-good, whole-good, good-whole}
@@ -22,6 +22,11 @@ use Rattle.blocks.proofs.Tables.{Good, Whole, undamaged, undamaged-whol
 pub not-free : (t x : ℕ) → single t x ≡ false → x ≡ 0 → ⊥
 unfolding single
 not-free t x h z = let q : eqb x 0 || eqb x t ≡ true = rw (eq-eqb x 0 z) in true≢false (sym q ∙ h)
+
+-- nor the order of a slot
+pub not-slot : (t x : ℕ) → single t x ≡ false → x ≡ t → ⊥
+unfolding single
+not-slot t x h z = true≢false (sym (or-right (eqb x 0) (eq-eqb x t z)) ∙ h)
 
 module _ (t m : ℕ) (s : List ℕ) where
   -- a block of one slot is whole

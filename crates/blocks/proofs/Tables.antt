@@ -6,7 +6,7 @@ use mathlib.Core.Logic.{⊎-elim}
 use mathlib.Core.Path.{_≡_, refl, sym, _∙_, ap, subst}
 use native.Mathlib.Nat.{not-suc-le-zero, eq-or-lt-of-le, le-of-suc-le-suc, add-sub-of-le, le-refl}
 use native.Mathlib.Omega.{arith}
-use borrow.Author.Tests.{le-leb, lt-leb, eq-eqb, ne-eqb, leb-true, eqb-true, not-false}
+use borrow.Author.Tests.{le-leb, eq-eqb, ne-eqb, leb-true, eqb-true, not-false}
 use lib.Dec.{leb}
 use lib.ListN.{length, getD}
 use Rattle.blocks.specs.Blocks.{floor}
@@ -64,13 +64,9 @@ module _ (t m : ℕ) (s : List ℕ) where
   unfolding bad
   free-good i e = rw (eq-eqb _ _ e)
 
-  pub low-bad : (i e : ℕ) → (e ≡ 0 → ⊥) → e < t → bad t m s i e ≡ true
+  pub order-bad : (i e : ℕ) → (e ≡ 0 → ⊥) → leb t e && leb e m ≡ false → bad t m s i e ≡ true
   unfolding bad
-  low-bad i e n h = rw (ne-eqb e 0 n, lt-leb t e h)
-
-  pub high-bad : (i e : ℕ) → (e ≡ 0 → ⊥) → t ≤ e → m < e → bad t m s i e ≡ true
-  unfolding bad
-  high-bad i e n h l = rw (ne-eqb e 0 n, le-leb t e h, lt-leb e m l)
+  order-bad i e n h = rw (ne-eqb e 0 n, h)
 
   -- in the block of slot i, whose entry is e, slot k has another
   pub torn-bad : (i e k : ℕ) → (e ≡ 0 → ⊥) → t ≤ e → e ≤ m → floor (e - t) i ≤ k → k < floor (e - t) i + 2 ^ (e - t)

@@ -2,6 +2,7 @@
 // passed row by row, and slot by slot only where a row's slots are not alike.
 ghost use mathlib.Core.Path.{_≡_};
 ghost use mathlib.Core.Bool.{_&&_};
+ghost use lib.Dec.{leb};
 ghost use lib.ListN.{length, getD};
 ghost use Prim.Native.Nat.{_-_, _^_, _≤_};
 ghost use Rattle.blocks.specs.Placing.{allFree};
@@ -14,7 +15,7 @@ use crate::slots_of;
 use crate::wide;
 
 // Whether the table of an arena of order m is damaged. A block that is found whole is passed whole, so that each slot is looked at once, or twice where
-// it is the first of a block.
+// it is the first of a block. The range of a block that is no single slot is compared two slots at a time.
 pub fn by_slots(table: &[u8], m: u32) -> bool
     requires { ⌜ (4 ≤ m) × (m ≤ 16) × (length (now table) ≡ 2 ^ (m - 4)) ⌝ }
     ensures { λ r. ⌜ r ≡ damagedBy 4 m (now (table .entry)) ⌝ }
@@ -28,11 +29,7 @@ pub fn by_slots(table: &[u8], m: u32) -> bool
             continue 'scan;
         }
         let e = wide(x);
-        if e < SLOT_ORDER {
-            found = true;
-            break 'scan;
-        }
-        if m < e {
+        if !is_order(e, m) {
             found = true;
             break 'scan;
         }
@@ -45,7 +42,11 @@ pub fn by_slots(table: &[u8], m: u32) -> bool
                 found = true;
                 break 'scan;
             }
-            k += 1;
+            if table[k + 1] != x {
+                found = true;
+                break 'scan;
+            }
+            k += 2;
         }
         i = to;
     }
@@ -122,10 +123,7 @@ fn in_a_row(x: u8) -> bool
     if x == 0 {
         return true;
     }
-    if wide(x) < SLOT_ORDER {
-        return false;
-    }
-    wide(x) <= ROW_ORDER
+    is_order(wide(x), ROW_ORDER)
 }
 
 // Whether each slot of a row has the entry x. It looks at every slot, so that the compiler compares them at once.
@@ -142,6 +140,16 @@ fn alike(row: &[u8], x: u8) -> bool
         }
     }
     same
+}
+
+// Whether e is the order of a block in an arena of order m.
+fn is_order(e: u32, m: u32) -> bool
+    ensures { λ r. ⌜ r ≡ leb 4 e && leb e m ⌝ }
+{
+    if e < SLOT_ORDER {
+        return false;
+    }
+    e <= m
 }
 
 // Whether an entry speaks of its slot alone: the slot is free, or a block.

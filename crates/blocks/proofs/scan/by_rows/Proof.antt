@@ -10,7 +10,7 @@ use native.Mathlib.Nat.{add-zero, add-sub-of-le}
 use native.Mathlib.Omega.{arith}
 use borrow.Author.Needs.{needs}
 use borrow.Author.Count.{below-none}
-use borrow.Author.Tests.{not-true, not-false}
+use borrow.Author.Tests.{not-true, not-false, le-leb, lt-leb}
 use denote.Ref.{now}
 use lib.Dec.{eqb}
 use lib.ListN.{length, getD, take, drop}
@@ -20,7 +20,7 @@ use Rattle.blocks.specs.Placing.{allFree}
 use Rattle.blocks.specs.Tables.{damagedBy}
 use Rattle.blocks.specs.Searching.{hasEntry}
 use Rattle.blocks.proofs.Floors.{floor-le, lt-floor, floor-end}
-use Rattle.blocks.proofs.Tables.{Good, Whole, damaged-at, undamaged, high-bad, whole-good}
+use Rattle.blocks.proofs.Tables.{Good, Whole, damaged-at, undamaged, order-bad, whole-good}
 use Rattle.blocks.proofs.Runs.{part-length, part-entry, run-of-part}
 use Rattle.blocks.proofs.Rows.{run-at, run-bad, floor-rows, row-good, row-undamaged, whole-rows, below-both}
 use Rattle.blocks.proofs.scan.by_rows.Statement.{statement}
@@ -276,7 +276,7 @@ returns-3 c =
     let u = w .before .before in
     let big = c .before .if1 .left in
     sym (damaged-at 4 (top u) (table u) (slot u) (w .wide .result) (u .scan-test .taken) (w .wide .ensures)
-    (high-bad 4 _ _ _ _ (λ z. omega (arith, big)) (omega (arith, big)) (c .if3 .taken)))
+    (order-bad 4 _ _ _ _ (λ z. omega (arith, big)) (rw (le-leb 4 (w .wide .result) (omega (arith, big)), lt-leb (w .wide .result) (top u) (c .if3 .taken)))))
 
 returns-4 : tie.Need-returns-4 Inv-block μ-block Inv-scan μ-scan
 returns-4 c =

@@ -1,27 +1,32 @@
 -- `by_slots` meets its contract. Both loops are left by `break 'scan` at the first damage.
--- The outer loop's invariant: every slot passed is good. The inner loop's: every slot of the range that was passed has the entry e.
+-- The outer loop's invariant: every slot passed is good. The inner loop's: every slot of the range that was passed has the entry e, and pairs were passed.
 -- The measures are what is left of the table and of the range.
-use mathlib.Core.Bool.{false}
+use mathlib.Core.Bool.{true, false, _&&_}
 use mathlib.Core.List.{List}
 use mathlib.Core.Path.{_≡_, refl, sym, _∙_, ap}
-use Prim.Native.Nat.{ℕ, _+_, _-_, _*_, _/_, _^_, _≤_, _<_}
+use Prim.Native.Nat.{ℕ, _+_, _-_, _*_, _/_, _%_, _^_, _≤_, _<_}
+use native.Mathlib.Decide.{decLt}
 use native.Mathlib.Omega.{arith}
 use borrow.Author.Needs.{needs}
+use borrow.Author.Tests.{not-true, not-false, leb-true}
 use borrow.Author.Count.{below-none, below-more}
 use denote.Ref.{now}
+use lib.Dec.{leb}
 use lib.ListN.{length, getD}
 use lib.Pow.{pow-pos}
 use Rattle.blocks.specs.Blocks.{floor}
-use Rattle.blocks.proofs.Floors.{floor-le, lt-floor, floor-end}
-use Rattle.blocks.proofs.Tables.{Good, Whole, damaged-at, undamaged, low-bad, high-bad, torn-bad, whole-good}
-use Rattle.blocks.proofs.Rows.{not-free, single-good, below-both}
+use Rattle.blocks.specs.Tables.{damagedBy}
+use Rattle.blocks.proofs.Booleans.{and-left, and-right}
+use Rattle.blocks.proofs.Floors.{floor-le, lt-floor, floor-end, pow-split}
+use Rattle.blocks.proofs.Tables.{Good, Whole, damaged-at, undamaged, order-bad, torn-bad, whole-good}
+use Rattle.blocks.proofs.Rows.{not-free, not-slot, single-good, below-both}
 use Rattle.blocks.proofs.scan.by_slots.Statement.{statement}
 use Rattle.blocks.proofs.scan.by_slots.Tie as tie
 
 abbrev Inv-block : tie.InvT-block
 Inv-block table m found₀ i x e slots from to k₀ found k =
     (found ≡ false) × (from ≡ floor (e - 4) i) × (to ≡ floor (e - 4) i + 2 ^ (e - 4)) × (to ≤ length table) × (from ≤ k) × (k ≤ to)
-    × ((j : ℕ) → j < k → from ≤ j → getD table j 0 ≡ e)
+    × ((k - from) % 2 ≡ 0) × ((j : ℕ) → j < k → from ≤ j → getD table j 0 ≡ e)
 
 abbrev μ-block : tie.MeasureT-block
 μ-block table m found₀ i x e slots from to k₀ found k = to - k
@@ -50,20 +55,42 @@ module _ (c : tie.In-scan Inv-block μ-block Inv-scan μ-scan) where
   top-low = c .before .before .before .pre .0
 
 -- where the entry is an order: the entry, and the range round the slot
-module _ (c : tie.Else3 Inv-block μ-block Inv-scan μ-scan) where
+module _ (c : tie.Else2 Inv-block μ-block Inv-scan μ-scan) where
   abbrev turn : tie.In-scan Inv-block μ-block Inv-scan μ-scan
   turn = c .before .before .before .before .before .before
 
   abbrev entry : ℕ
   entry = c .before .before .wide .result
 
+  entry-is : entry ≡ getD (table turn) (slot turn) 0
+  entry-is = c .before .before .wide .ensures
+
+  is-order : leb 4 entry && leb entry (top turn) ≡ true
+  is-order = sym (c .before .is-order .ensures) ∙ not-false _ (c .if2 .left)
+
+  low-order : 4 ≤ entry
+  low-order = leb-true 4 entry (and-left _ _ is-order)
+
+  high-order : entry ≤ top turn
+  high-order = leb-true entry (top turn) (and-right (leb 4 entry) _ is-order)
+
+  -- the entry is no single slot's, so the range has pairs of slots
+  pairs : 2 ^ (entry - 4) % 2 ≡ 0
+  pairs =
+      let e = c .before .before .before in
+      let other : entry ≡ 4 → ⊥ = λ z. not-slot 4 _ (sym (e .before .is-single .ensures) ∙ e .if1 .left) (sym entry-is ∙ z) in
+      elim (decLt 4 entry) [
+        | yes l ↦ omega (arith, pow-split 1 (entry - 4) (omega arith))
+        | no l ↦ absurd (other (omega (arith, low-order)))
+      ]
+
   taken : entry ≡ 0 → ⊥
-  taken z = omega (arith, c .before .if2 .left)
+  taken z = omega (arith, low-order)
 
   ends : floor (entry - 4) (slot turn) + 2 ^ (entry - 4) ≤ length (table turn)
   ends =
       let len = turn .before .before .before .pre .2 in
-      rw len (floor-end (entry - 4) _ (slot turn) (omega (arith, c .if3 .left)) (rw len at (turn .scan-test .taken)))
+      rw len (floor-end (entry - 4) _ (slot turn) (omega (arith, high-order)) (rw len at (turn .scan-test .taken)))
 
 -- its bounds, as the code computes them
 module _ (c : tie.After-slots-of Inv-block μ-block Inv-scan μ-scan) where
@@ -73,6 +100,31 @@ module _ (c : tie.After-slots-of Inv-block μ-block Inv-scan μ-scan) where
   from-is : from ≡ floor (entry (c .before) - 4) (slot (turn (c .before)))
   unfolding floor
   from-is = ap (λ (x : ℕ). slot (turn (c .before)) / x * x) (c .slots-of .ensures)
+
+  -- slot k of the range has another entry
+  torn : (k : ℕ) → floor (entry (c .before) - 4) (slot (turn (c .before))) ≤ k
+      → k < floor (entry (c .before) - 4) (slot (turn (c .before))) + 2 ^ (entry (c .before) - 4)
+      → (getD (table (turn (c .before))) k 0 ≡ getD (table (turn (c .before))) (slot (turn (c .before))) 0 → ⊥)
+      → true ≡ damagedBy 4 (top (turn (c .before))) (table (turn (c .before)))
+  torn k lo hi n =
+      let o = c .before in
+      let u = turn o in
+      let w = entry-is o in
+      sym (damaged-at 4 (top u) (table u) (slot u) (entry o) (u .scan-test .taken) w
+      (torn-bad 4 (top u) (table u) (slot u) (entry o) k (taken o) (low-order o) (high-order o) lo hi (λ q. n (q ∙ w))))
+
+-- two slots of it
+module _ (c : tie.Else3 Inv-block μ-block Inv-scan μ-scan) where
+  abbrev range : tie.At-block Inv-block μ-block Inv-scan μ-scan
+  range = c .before .before .before
+
+  abbrev order : tie.Else2 Inv-block μ-block Inv-scan μ-scan
+  order = range .before .before
+
+  pair : range .block .k + 2 ≤ floor (entry order - 4) (slot (turn order)) + 2 ^ (entry order - 4)
+  pair =
+      let inv = range .block .inv in
+      omega (arith, pairs order, inv .1, inv .2, inv .6, c .before .before .block-test .taken)
 
 scan-holds : tie.Need-scan-holds Inv-block μ-block Inv-scan μ-scan
 scan-holds c = (refl, omega arith, below-none _)
@@ -98,8 +150,11 @@ scan-again c =
 wide-requires : tie.Need-wide-requires Inv-block μ-block Inv-scan μ-scan
 wide-requires c κs = search needs
 
+is-order-requires : tie.Need-is-order-requires Inv-block μ-block Inv-scan μ-scan
+is-order-requires c κs = search needs
+
 slots-of-requires : tie.Need-slots-of-requires Inv-block μ-block Inv-scan μ-scan
-slots-of-requires c κs = omega arith
+slots-of-requires c κs = (low-order c, omega (arith, high-order c, turn c .before .before .before .pre .1))
 
 div-from : tie.Need-div-from Inv-block μ-block Inv-scan μ-scan
 div-from c = rw (c .slots-of .ensures) (pow-pos _)
@@ -115,23 +170,33 @@ block-holds c =
     let low = from-is c in
     let size = c .slots-of .ensures in
     let found = turn (c .before) .before .scan .inv .0 in
-    (found, low, omega arith, omega (arith, ends (c .before)), omega arith, omega arith, λ j l g. omega arith)
+    (found, low, omega arith, omega (arith, ends (c .before)), omega arith, omega arith, omega arith, λ j l g. omega arith)
+
+shared-slice-read-if3 : tie.Need-shared-slice-read-if3 Inv-block μ-block Inv-scan μ-scan
+shared-slice-read-if3 c = omega arith
+
+add-if4 : tie.Need-add-if4 Inv-block μ-block Inv-scan μ-scan
+add-if4 c = omega arith
 
 shared-slice-read-if4 : tie.Need-shared-slice-read-if4 Inv-block μ-block Inv-scan μ-scan
-shared-slice-read-if4 c = omega arith
+shared-slice-read-if4 c = omega (arith, pair (c .before))
 
 add-k : tie.Need-add-k Inv-block μ-block Inv-scan μ-scan
-add-k c = omega arith
+add-k c = omega (arith, pair (c .before .before))
 
 block-less : tie.Need-block-less Inv-block μ-block Inv-scan μ-scan
-block-less c = omega arith
+block-less c = omega (arith, pair (c .before .before))
 
 block-again : tie.Need-block-again Inv-block μ-block Inv-scan μ-scan
 block-again c =
-    let b = c .before .before .before in
+    let p = c .before .before in
+    let b = range p in
     let inv = b .block .inv in
-    let same = c .if4 .left ∙ sym (b .before .before .before .before .wide .ensures) in
-    (inv .0, inv .1, inv .2, inv .3, omega arith, omega arith, below-more _ _ (inv .6) (λ _. same))
+    let one = p .if3 .left ∙ sym (entry-is (order p)) in
+    let two = c .if4 .left ∙ sym (entry-is (order p)) in
+    let Passed : ℕ → Type 0 = λ j. from (b .before) ≤ j → getD (table (turn (order p))) j 0 ≡ entry (order p) in
+    let both = below-more Passed (b .block .k + 1) (below-more Passed (b .block .k) (inv .7) (λ _. one)) (λ _. two) in
+    (inv .0, inv .1, inv .2, inv .3, omega arith, omega (arith, pair p), omega arith, λ j l. both j (omega arith))
 
 scan-less-2 : tie.Need-scan-less-2 Inv-block μ-block Inv-scan μ-scan
 scan-less-2 c =
@@ -145,7 +210,7 @@ scan-again-2 c =
     let u = turn o in
     let inv = c .before .block .inv in
     let w : Whole 4 (top u) (table u) (slot u) (entry o) =
-    record { low = o .before .if2 .left; high = o .if3 .left; entries = λ k lo hi. inv .6 k (omega (arith, inv .2)) (omega (arith, inv .1)) } in
+    record { low = low-order o; high = high-order o; entries = λ k lo hi. inv .7 k (omega (arith, inv .2)) (omega (arith, inv .1)) } in
     let block = whole-good 4 (top u) (table u) (slot u) (entry o) (taken o) w in
     let low = floor-le (entry o - 4) (slot u) in
     (inv .0, inv .3, below-both (Good 4 (top u) (table u)) (slot u) _ (passed u) (λ j lo hi. block j (omega arith) (omega (arith, inv .2))))
@@ -155,29 +220,25 @@ returns c = c .before .scan .inv .0 ∙ sym (undamaged 4 _ _ (λ j l. c .before 
 
 returns-2 : tie.Need-returns-2 Inv-block μ-block Inv-scan μ-scan
 returns-2 c =
-    let w = c .before in
+    let w = c .before .before in
     let u = w .before .before .before .before in
     let none = not-free 4 _ (sym (w .before .before .is-single .ensures) ∙ w .before .if1 .left) in
+    let no-order = sym (c .before .is-order .ensures) ∙ not-true _ (c .if2 .taken) in
     sym (damaged-at 4 (top u) (table u) (slot u) (w .wide .result) (u .scan-test .taken) (w .wide .ensures)
-    (low-bad 4 _ _ _ _ (λ z. none (sym (w .wide .ensures) ∙ z)) (c .if2 .taken)))
+    (order-bad 4 _ _ _ _ (λ z. none (sym (w .wide .ensures) ∙ z)) no-order))
 
 returns-3 : tie.Need-returns-3 Inv-block μ-block Inv-scan μ-scan
 returns-3 c =
-    let w = c .before .before in
-    let u = w .before .before .before .before in
-    sym (damaged-at 4 (top u) (table u) (slot u) (w .wide .result) (u .scan-test .taken) (w .wide .ensures)
-    (high-bad 4 _ _ _ _ (λ z. omega (arith, c .before .if2 .left)) (c .before .if2 .left) (c .if3 .taken)))
+    let b = c .before .before .before in
+    let inv = b .block .inv in
+    torn (b .before) (b .block .k) (omega (arith, inv .1, inv .4)) (omega (arith, inv .2)) (c .if3 .taken)
 
 returns-4 : tie.Need-returns-4 Inv-block μ-block Inv-scan μ-scan
 returns-4 c =
-    let b = c .before .before .before in
+    let p = c .before .before in
+    let b = range p in
     let inv = b .block .inv in
-    let o = b .before .before in
-    let u = turn o in
-    let w = o .before .before .wide .ensures in
-    sym (damaged-at 4 (top u) (table u) (slot u) (entry o) (u .scan-test .taken) w
-    (torn-bad 4 (top u) (table u) (slot u) (entry o) (b .block .k) (taken o) (o .before .if2 .left) (o .if3 .left)
-    (omega (arith, inv .1, inv .4)) (omega (arith, inv .2)) (λ q. c .if4 .taken (q ∙ w))))
+    torn (b .before) (b .block .k + 1) (omega (arith, inv .1, inv .4)) (omega (arith, inv .2, pair p)) (c .if4 .taken)
 
 pub by-slots-spec : {M : Type 1} → statement M
 by-slots-spec =
@@ -194,11 +255,14 @@ by-slots-spec =
     scan-less
     scan-again
     wide-requires
+    is-order-requires
     slots-of-requires
     div-from
     mul-from
     add-to
     block-holds
+    shared-slice-read-if3
+    add-if4
     shared-slice-read-if4
     add-k
     block-less
