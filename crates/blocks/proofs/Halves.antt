@@ -7,13 +7,18 @@ use Prim.Native.Nat.{ℕ, zero, suc, _+_, _-_, _*_, _/_, _^_, _≤_, _<_}
 use native.Mathlib.Nat.{eq-or-lt-of-le, zero-mul, add-zero, zero-add, add-suc, suc-add, two-pow-succ, mul-le-mul-right, add-mul}
 use native.Mathlib.Omega.{arith}
 use borrow.Author.Tests.{eq-eqb, ne-eqb, lt-ltb, le-ltb}
-use lib.Dec.{eqb}
+use lib.Dec.{eqb, ltb}
 use lib.Pow.{pow-add}
 use Rattle.blocks.specs.declared.Place.{Place}
 use Rattle.blocks.specs.declared.Place.the-variants.{At, Nothing}
 use Rattle.blocks.specs.Placing.{allFree, rangeStart, freeRange, maximal, lowest, atOrder, orElse, fromOrder, placeIn}
-use Rattle.blocks.specs.Searching.{smallerOf}
 use Rattle.blocks.proofs.Runs.{part}
+
+-- of two places the one of the smaller order, and the first of equals
+abbrev pub smallerOf : Place → Place → Place
+smallerOf Nothing y = y
+smallerOf (At s k) Nothing = At s k
+smallerOf (At s k) (At s′ k′) = cond (ltb k′ k) (At s′ k′) (At s k)
 
 -- ---- the lowest of some ranges
 cond-else : (t : Bool) (x k : ℕ) (y z : Place) → cond t (At x k) (orElse y z) ≡ orElse (cond t (At x k) y) z

@@ -7,8 +7,8 @@ use lib.Pow.{pow-pos}
 use Rattle.blocks.specs.declared.Place.{Place}
 use Rattle.blocks.specs.declared.Place.the-variants.{At, Nothing}
 use Rattle.blocks.specs.Placing.{placeIn}
-use Rattle.blocks.specs.Searching.{keyOf, smallerOf}
-use Rattle.blocks.proofs.Halves.{smaller-left, smaller-right}
+use Rattle.blocks.specs.Searching.{keyOf}
+use Rattle.blocks.proofs.Halves.{smallerOf, smaller-left, smaller-right}
 use Rattle.blocks.proofs.Places.{FreePlace, place-sound, range-inside}
 
 -- a place, if any, begins at a slot from lo up and below hi, and has an order from e up to 16

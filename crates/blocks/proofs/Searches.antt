@@ -1,13 +1,13 @@
 -- What the search answers for a part of the arena, one law for each of its returns. Slots are free by an arbitrary test f; the parts at the end are
 -- those of a table.
 use Prim.Native.Nat.{ℕ, _+_, _-_, _*_, _/_, _^_, _≤_, _<_}
-use mathlib.Core.Bool.{Bool, true, false, not, _&&_}
+use mathlib.Core.Bool.{Bool, true, false, cond, not, _&&_}
 use mathlib.Core.List.{List}
-use mathlib.Core.Path.{_≡_, refl, sym, ap, _∙_}
+use mathlib.Core.Path.{_≡_, refl, sym, ap, subst, _∙_}
 use native.Mathlib.Decide.{decLt}
 use native.Mathlib.Nat.{zero-add, add-zero, add-assoc, zero-mul, mul-assoc, add-mul, mul-le-mul-right, suc-mul}
 use native.Mathlib.Omega.{arith}
-use borrow.Author.Tests.{ne-eqb, eqb-true, not-true}
+use borrow.Author.Tests.{ne-eqb, eqb-true, eqb-false, not-true}
 use lib.Dec.{eqb, leb}
 use lib.ListN.{length, getD}
 use lib.Pow.{pow-pos}
@@ -15,11 +15,12 @@ use Rattle.blocks.specs.declared.Place.{Place}
 use Rattle.blocks.specs.declared.Place.the-variants.{Nothing}
 use Rattle.blocks.specs.Tables.{damagedBy, freeIn}
 use Rattle.blocks.specs.Placing.{allFree, placeIn}
-use Rattle.blocks.specs.Searching.{asFree, PartOf, keyOf, smallerOf}
+use Rattle.blocks.specs.Searching.{bitsOf, asFree, decidedBy, PartOf, keyOf}
 use Rattle.blocks.proofs.Floors.{floor-le, lt-floor, floor-quotient, pow-split}
 use Rattle.blocks.proofs.Tables.{undamaged-whole}
+use Rattle.blocks.proofs.Bits.{bits-none, bits-all, all-bits}
 use Rattle.blocks.proofs.Runs.{all-at, all-stop, all-same}
-use Rattle.blocks.proofs.Halves.{doubled, place-whole, place-none, place-halves}
+use Rattle.blocks.proofs.Halves.{smallerOf, doubled, place-whole, place-none, place-halves}
 use Rattle.blocks.proofs.Keys.{Within, place-within, place-taken, key-right, key-left, key-first}
 
 -- ---- answers
@@ -43,6 +44,44 @@ module _ (f : ℕ → Bool) (t from k e : ℕ) (low : t ≤ e) (high : e ≤ k) 
   -- the part has the order that is sought, and is not all free
   pub at-order : k ≡ e → allFree f from (2 ^ (k - t)) ≡ false → 1114112 ≡ answer
   at-order g h = none (place-none f t from k e g h)
+
+-- what the bits decide: r is the answer, or 0 where the halves have to be looked at
+pub record Decided (t bits from k e r : ℕ) : Type 0 where
+  pub answer : (r ≡ 0 → ⊥) → (f : ℕ → Bool) → bits ≡ bitsOf f from (2 ^ (k - t)) → r ≡ keyOf (placeIn f t from k e)
+  pub above : r ≡ 0 → e < k
+  pub mixed : r ≡ 0 → (f : ℕ → Bool) → bits ≡ bitsOf f from (2 ^ (k - t)) → allFree f from (2 ^ (k - t)) ≡ false
+
+module _ (t bits from k e : ℕ) (low : t ≤ e) (high : e ≤ k) (some : 0 < k) where
+  answers : (r : ℕ) → (r ≡ 0 → ⊥) → ((f : ℕ → Bool) → bits ≡ bitsOf f from (2 ^ (k - t)) → r ≡ keyOf (placeIn f t from k e))
+      → Decided t bits from k e r
+  answers r n h = record { answer = λ x. h; above = λ z. absurd (n z); mixed = λ z. absurd (n z) }
+
+  not-all : eqb bits (2 ^ 2 ^ (k - t) - 1) ≡ false → (f : ℕ → Bool) → bits ≡ bitsOf f from (2 ^ (k - t)) → allFree f from (2 ^ (k - t)) ≡ false
+  not-all q f h = go (allFree f from (2 ^ (k - t))) refl
+    where
+      go : (b : Bool) → allFree f from (2 ^ (k - t)) ≡ b → b ≡ false
+      go true x = absurd (eqb-false _ _ q (h ∙ all-bits f from _ x))
+      go false x = refl
+
+  pub decided : (r : ℕ) → r ≡ decidedBy t bits from k e → Decided t bits from k e r
+  decided r h = subst (Decided t bits from k e) (sym h) (none-set (eqb bits 0) refl)
+    where
+      in-order : eqb bits (2 ^ 2 ^ (k - t) - 1) ≡ false → (b : Bool) → eqb k e ≡ b → Decided t bits from k e (cond b 1114112 0)
+      in-order n true q = answers 1114112 (λ z. omega arith) (λ f x. at-order f t from k e low high (eqb-true k e q) (not-all n f x))
+      in-order n false q =
+          let below : e < k = elim (decLt e k) [ yes l ↦ l | no l ↦ absurd (eqb-false k e q (omega arith)) ] in
+          record { answer = λ x. absurd (x refl); above = λ z. below; mixed = λ z. not-all n }
+
+      all-set : (b : Bool) → eqb bits (2 ^ 2 ^ (k - t) - 1) ≡ b → Decided t bits from k e (cond b (k * 65536 + from) (cond (eqb k e) 1114112 0))
+      all-set true q =
+          let ones = eqb-true bits _ q in
+          answers (k * 65536 + from) (λ z. omega arith) (λ f x. all-open f t from k e low high (bits-all f from _ (sym x ∙ ones)))
+      all-set false q = in-order q (eqb k e) refl
+
+      none-set : (b : Bool) → eqb bits 0 ≡ b
+          → Decided t bits from k e (cond b 1114112 (cond (eqb bits (2 ^ 2 ^ (k - t) - 1)) (k * 65536 + from) (cond (eqb k e) 1114112 0)))
+      none-set true q = answers 1114112 (λ z. omega arith) (λ f x. none-free f t from k e low high (bits-none f from _ (sym x ∙ eqb-true bits 0 q)))
+      none-set false q = all-set (eqb bits (2 ^ 2 ^ (k - t) - 1)) refl
 
 -- a part that is searched by halves
 pub record Halved (f : ℕ → Bool) (t from k e : ℕ) : Type 0 where

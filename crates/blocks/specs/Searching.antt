@@ -1,9 +1,10 @@
--- What the damage scan and the search by halves test on their way. The contracts of their helpers cite these; their own cite `damagedBy` and `placeIn`.
+-- What the damage scan and the search by halves test and answer on their way. Inner contracts cite these; `damaged` and `find_place` cite `damagedBy` and
+-- `placeIn`. Where `allFree` is given another test than that of free slots, it says that all of the slots pass it.
 use Prim.Native.Nat.{ℕ, zero, suc, _+_, _-_, _*_, _^_, _≤_, _<_}
 use mathlib.Core.Bool.{Bool, false, cond, not, _&&_, _||_}
 use mathlib.Core.List.{List}
 use mathlib.Core.Path.{_≡_}
-use lib.Dec.{eqb, leb, ltb}
+use lib.Dec.{eqb, leb}
 use lib.ListN.{length, getD}
 use Rattle.blocks.specs.Tables.{damagedBy, freeIn}
 use Rattle.blocks.specs.Placing.{allFree, placeIn}
@@ -24,7 +25,7 @@ abbrev pub inRow : ℕ → ℕ → Bool
 inRow t x = eqb x 0 || (leb t x && leb x (t + 4))
 
 -- ---- the search
--- slot i is free, or is taken
+-- slot i is free, or, where `free` is false, taken
 abbrev pub asFree : List ℕ → Bool → ℕ → Bool
 asFree s free i = cond free (freeIn s i) (not (freeIn s i))
 
@@ -38,22 +39,15 @@ unfoldable pub keyOf : Place → ℕ
 keyOf Nothing = 1114112
 keyOf (At s k) = k * 65536 + s
 
--- of two places the one of the smaller order, and the first of equals
-abbrev pub smallerOf : Place → Place → Place
-smallerOf Nothing y = y
-smallerOf (At s k) Nothing = At s k
-smallerOf (At s k) (At s′ k′) = cond (ltb k′ k) (At s′ k′) (At s k)
-
 -- r answers for the part of order k at the slot `from`, whatever the slots outside it are: the part's free ones are the bits, and it is not all free
 abbrev pub SearchedBits : (t bits from k e r : ℕ) → Type 0
 SearchedBits t bits from k e r =
     (f : ℕ → Bool) → bits ≡ bitsOf f from (2 ^ (k - t)) → allFree f from (2 ^ (k - t)) ≡ false → r ≡ keyOf (placeIn f t from k e)
 
--- r answers for it, or is 0 where its halves have to be looked at
-pub record Decided (t bits from k e r : ℕ) : Type 0 where
-  pub answer : (r ≡ 0 → ⊥) → (f : ℕ → Bool) → bits ≡ bitsOf f from (2 ^ (k - t)) → r ≡ keyOf (placeIn f t from k e)
-  pub above : r ≡ 0 → e < k
-  pub mixed : r ≡ 0 → (f : ℕ → Bool) → bits ≡ bitsOf f from (2 ^ (k - t)) → allFree f from (2 ^ (k - t)) ≡ false
+-- what the bits alone decide of it: none is free, all are, or it has the order that is sought; else 0, and its halves have to be looked at
+abbrev pub decidedBy : (t bits from k e : ℕ) → ℕ
+decidedBy t bits from k e =
+    cond (eqb bits 0) 1114112 (cond (eqb bits (2 ^ 2 ^ (k - t) - 1)) (k * 65536 + from) (cond (eqb k e) 1114112 0))
 
 -- the list p is the part of order k, at the slot `from`, of the undamaged table s of an arena, and one that halving the arena gives
 pub record PartOf (t : ℕ) (s : List ℕ) (from k : ℕ) (p : List ℕ) : Type 0 where

@@ -2,7 +2,7 @@
 ghost use mathlib.Core.Path.{_≡_};
 ghost use mathlib.Core.Bool.{false};
 ghost use lib.ListN.{length};
-ghost use Prim.Native.Nat.{_+_, _-_, _*_, _%_, _^_, _≤_, _<_};
+ghost use Prim.Native.Nat.{_+_, _-_, _^_, _≤_, _<_};
 ghost use Rattle.blocks.specs.Blocks.{floor, holds};
 ghost use Rattle.blocks.specs.Orders.{orderOf, neededOrder};
 ghost use Rattle.blocks.specs.Seeking.{fromZero};
@@ -169,7 +169,8 @@ pub fn referent_of(table: &[u8], m: u32, p: u32) -> Referent
     referent_at(table, m, sought_address(p))
 }
 
-// Whether the table of an arena of order m is damaged.
+// Whether the table of an arena of order m is damaged. The scan is lent a part that is the whole table: a slice that is handed on itself would be passed
+// through memory by every caller of this function.
 pub fn damaged(table: &[u8], m: u32) -> bool
     requires { ⌜ (4 ≤ m) × (m ≤ 16) × (length (now table) ≡ 2 ^ (m - 4)) ⌝ }
     ensures { λ r. ⌜ r ≡ damagedBy 4 m (now (table .entry)) ⌝ }

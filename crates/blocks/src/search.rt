@@ -8,23 +8,24 @@ ghost use lib.ListN.{length};
 ghost use Prim.Native.Nat.{_+_, _-_, _*_, _%_, _^_, _≤_, _<_};
 ghost use Rattle.blocks.specs.Placing.{allFree};
 ghost use Rattle.blocks.specs.Tables.{freeIn};
-ghost use Rattle.blocks.specs.Searching.{bitsOf, asFree, Decided, SearchedBits, SearchedPart};
+ghost use Rattle.blocks.specs.Searching.{bitsOf, asFree, decidedBy, SearchedBits, SearchedPart};
 use crate::ROW;
 use crate::ROW_ORDER;
 use crate::SLOT_ORDER;
 use crate::size_of;
 use crate::wide;
 
-// The keys of an order: more than there are slots.
+// How many keys an order has: more than there are slots.
 pub const KEYS: u32 = 65536;
 
-// The key of no place: above that of any.
+// The key of no place, 17 times KEYS: above that of any.
 pub const NOWHERE: u32 = 1114112;
 
 // No answer yet: a part that has to be searched by halves. No place has this key.
 const UNDECIDED: u32 = 0;
 
-// The key for a block of order e in an arena of order m with this undamaged table. An arena of at most a row needs no recursion on parts.
+// The key for a block of order e in an arena of order m with this undamaged table. An arena of at most a row is spared the frame of the
+// recursion on parts, a fifth of the time of a small search.
 pub fn place_key(table: &[u8], m: u32, e: u32) -> u32
     requires { ⌜ (4 ≤ e) × (e ≤ m) × (m ≤ 16) × (length (now table) ≡ 2 ^ (m - 4)) ⌝ }
     ensures { λ r. ⌜ SearchedPart 4 (now (table .entry)) 0 m e r ⌝ }
@@ -36,7 +37,7 @@ pub fn place_key(table: &[u8], m: u32, e: u32) -> u32
 }
 
 // The key for a block of order e in a part of order k, which begins at the slot `from` of an undamaged table. A part that lies in a block, or is all
-// free or all taken, is answered at once. So is one that has a range of order e in its left half: none is better.
+// free or all taken, or has the order that is sought, is answered at once. So is one that has a range of order e in its left half: none is better.
 fn search(part: &[u8], from: usize, k: u32, e: u32) -> u32
     requires { ⌜ (4 ≤ e) × (e ≤ k) × (k ≤ 16) × (length (now part) ≡ 2 ^ (k - 4)) × (from + 2 ^ (k - 4) ≤ 65536) ⌝ }
     ensures { λ r. ⌜ SearchedPart 4 (now (part .entry)) from k e r ⌝ }
@@ -64,8 +65,8 @@ fn search(part: &[u8], from: usize, k: u32, e: u32) -> u32
     if right < left { right } else { left }
 }
 
-// Whether a part of whole rows, with x the entry of its first slot, is all free, or all taken. It is not asked of a part that begins with a block of
-// more than a row: its halves tell at once.
+// Whether a part of whole rows, with x the entry of its first slot, is all free, or all taken. A part that begins with a block of more than a
+// row is told apart at once, as if it were neither: its halves are answered without a look at its rows.
 fn uniform(part: &[u8], x: u32) -> bool
     requires { ⌜ length (now part) % 16 ≡ 0 ⌝ }
     ensures { λ r. ⌜ r ≡ leb x 8 && allFree (asFree (now (part .entry)) (eqb x 0)) 0 (length (now (part .entry))) ⌝ }
@@ -84,7 +85,8 @@ fn uniform(part: &[u8], x: u32) -> bool
     true
 }
 
-// Whether each slot of a row is free, or each is taken.
+// Whether each slot of a row is free, or each is taken. Like `scan::alike` it looks at every slot, so that the compiler compares them at once, and from the
+// last one down, so that a caller's own look at the first one does not part it from the others.
 fn row_is(row: &[u8], free: bool) -> bool
     requires { ⌜ length (now row) ≡ 16 ⌝ }
     ensures { λ r. ⌜ r ≡ allFree (asFree (now (row .entry)) free) 0 16 ⌝ }
@@ -134,7 +136,7 @@ fn free_bits(part: &[u8]) -> u32
 // is sought.
 fn decided(bits: u32, n: u32, from: usize, k: u32, e: u32) -> u32
     requires { ⌜ (4 ≤ e) × (e ≤ k) × (k ≤ 8) × (n ≡ 2 ^ (k - 4)) × (from + n ≤ 65536) ⌝ }
-    ensures { λ r. ⌜ Decided 4 bits from k e r ⌝ }
+    ensures { λ r. ⌜ r ≡ decidedBy 4 bits from k e ⌝ }
 {
     if bits == 0 {
         return NOWHERE;

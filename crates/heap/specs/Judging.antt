@@ -34,7 +34,7 @@ pub record Ready (m : ℕ) (c : Call) (a t : List ℕ) : Type 0 where
   pub sound : Sound m a t
   pub arguments : first (argumentRules m c) ≡ 0
 
--- the refusal of a call before the state's: m is the order that the code computes, n the arguments' refusal, 0 for none
+-- the refusal of a call before it is carried out: m is the order that the code computes, n the arguments' refusal, 0 for none
 abbrev pub beforeCall : ℕ → ℕ → List ℕ → ℕ
 beforeCall m n t = first (8 when eqb m 0 ∷ n when not (eqb n 0) ∷ 20 when damagedBy slotOrder m t ∷ [])
 

@@ -137,14 +137,20 @@ pub fn fill(arena: &mut [u8], table: &[u8], p: u32, v: u8, n: u32) -> Answer
     unchecked::fill(arena, table, m, p, v, n)
 }
 
-// The check of the plain address p and the step i: 1 where the sum stays in p's referent, else 0.
+// The check of the plain address p and the step i: 1 where the sum stays in p's referent, else 0. It is in no list of calls and judges by its own short
+// list. (With that the scan has two callers: the compiler keeps it apart, and puts the judging into each call.)
 pub fn check(arena: &[u8], table: &[u8], p: u32, i: u32) -> Answer
     ensures { λ r. ⌜ r ≡ heapCheck p i (heapOf (now (arena .entry)) (now (table .entry))) ⌝ }
 {
     let m = refusals::order_of(arena, table);
-    let number = refusals::before_call(table, m, refusals::arguments(m, Call::Left(p)));
-    if number != 0 {
-        return answers::refused(number);
+    if m == 0 {
+        return answers::refused(8);
+    }
+    if blocks::is_marked(p) {
+        return answers::refused(13);
+    }
+    if blocks::damaged(table, m) {
+        return answers::refused(20);
     }
     unchecked::check(arena, table, m, p, i)
 }

@@ -10,9 +10,9 @@ use lib.Pow.{pow-pos, pow-mono}
 use borrow.Fn.Kinds.{In}
 use borrow.Fn.PlainCycle.{Measures, is, falls, and}
 use Rattle.blocks.specs.Placing.{allFree, placeIn}
-use Rattle.blocks.specs.Searching.{bitsOf, keyOf}
+use Rattle.blocks.specs.Searching.{bitsOf, decidedBy, keyOf}
 use Rattle.blocks.proofs.Bits.{bits-left, bits-right}
-use Rattle.blocks.proofs.Searches.{Halved, two-halves, first-half, left-half, right-half}
+use Rattle.blocks.proofs.Searches.{Decided, decided, Halved, two-halves, first-half, left-half, right-half}
 use Rattle.blocks.proofs.search.search_bits.Reads as search-bits
 use Rattle.blocks.proofs.search.search_bits.Kinds as search-bits-kinds
 use Rattle.blocks.proofs.search.+search_bits.Lts-search_bits as search-bits-lts
@@ -96,6 +96,10 @@ module _ (t : ℕ) (c : search-bits-lts.After-size-of2 (calls t) (search-bits-at
   right-bits : (f : ℕ → Bool) → Known t whole f → bits t whole / c .size-of2 .result ≡ bitsOf f (from t whole + half t whole) (half t whole)
   right-bits f h = ap₂ _/_ (h ∙ ap (bitsOf f (from t whole)) (two t whole)) size-is ∙ bits-right f (from t whole) (half t whole)
 
+  -- what is decided of the half at the slot `at` with these bits
+  verdict : (b at r : ℕ) → r ≡ decidedBy 4 b at (order t whole - 1) (sought t whole) → Decided 4 b at (order t whole - 1) (sought t whole) r
+  verdict b at r h = decided 4 b at (order t whole - 1) (sought t whole) (omega arith) (omega arith) (omega arith) r h
+
 -- where the left half is answered
 module _ (t : ℕ) (c : search-bits-lts.Joined1 (calls t) (search-bits-at t) search-bits.Post) where
   abbrev measured : search-bits-lts.After-size-of2 (calls t) (search-bits-at t) search-bits.Post
@@ -104,7 +108,7 @@ module _ (t : ℕ) (c : search-bits-lts.Joined1 (calls t) (search-bits-at t) sea
   left-is : (f : ℕ → Bool) → Known t (whole t measured) f → c .if1 .left ≡ answer t (whole t measured) f (from t (whole t measured))
   left-is f h =
       let known = left-bits t measured f h in
-      let d = c .before .decided .ensures in
+      let d = verdict t measured _ _ _ (c .before .decided .ensures) in
       ⊎-elim
       (λ x. x .2 ∙ x .1 .ensures f known (d .mixed (x .0 .taken) f known))
       (λ x. x .1 ∙ d .answer (x .0 .left) f known)
@@ -125,7 +129,7 @@ module _ (t : ℕ) (c : search-bits-lts.Joined3 (calls t) (search-bits-at t) sea
   right-is f h =
       let o = half-is t (measured t on-left) in
       let known = right-bits t (measured t on-left) f h ∙ ap (λ (x : ℕ). bitsOf f (from t part + x) (half t part)) (sym o) in
-      let d = c .before .decided2 .ensures in
+      let d = verdict t (measured t on-left) _ _ _ (c .before .decided2 .ensures) in
       let found : c .if3 .right ≡ answer t part f (from t part + half-size) =
       ⊎-elim
       (λ x. x .2 ∙ x .1 .ensures f known (d .mixed (x .0 .taken) f known))
@@ -163,7 +167,9 @@ sub-search-bits t c = omega arith
 search-bits-requires : (t : ℕ) → search-bits-lts.Need-search-bits-requires (calls t) (search-bits-at t) search-bits.Post
 search-bits-requires t c κs =
     let w = whole t (c .before .before) in
-    (omega arith, (omega arith, c .before .decided .ensures .above (c .if1 .taken), omega arith, omega (arith, two t w)))
+    let z = c .before .before .size-of2 .result in
+    let v = verdict t (c .before .before) (bits t w % z) (from t w) (c .before .decided .result) (c .before .decided .ensures) in
+    (omega arith, (omega arith, v .above (c .if1 .taken), omega arith, omega (arith, two t w)))
 
 is-exact-requires : (t : ℕ) → search-bits-lts.Need-is-exact-requires (calls t) (search-bits-at t) search-bits.Post
 is-exact-requires t c κs = omega arith
@@ -202,7 +208,10 @@ sub-search-bits-2 t c = omega arith
 search-bits-requires-2 : (t : ℕ) → search-bits-lts.Need-search-bits-requires-2 (calls t) (search-bits-at t) search-bits.Post
 search-bits-requires-2 t c κs =
     let m = measured t (c .before .before .before .before) in
-    (omega arith, (omega arith, c .before .decided2 .ensures .above (c .if3 .taken), omega arith, omega (arith, half-is t m, two t (whole t m))))
+    let w = whole t m in
+    let at = from t w + m .before .size-of .result in
+    let v = verdict t m (bits t w / m .size-of2 .result) at (c .before .decided2 .result) (c .before .decided2 .ensures) in
+    (omega arith, (omega arith, v .above (c .if3 .taken), omega arith, omega (arith, half-is t m, two t w)))
 
 returns-2 : (t : ℕ) → search-bits-lts.Need-returns-2 (calls t) (search-bits-at t) search-bits.Post
 returns-2 t c f h n =

@@ -11,7 +11,7 @@ use lib.Pow.{pow-mono}
 use Rattle.blocks.specs.Tables.{freeIn}
 use Rattle.blocks.specs.Searching.{bitsOf, PartOf}
 use Rattle.blocks.proofs.Bits.{bits-same}
-use Rattle.blocks.proofs.Searches.{part-free}
+use Rattle.blocks.proofs.Searches.{Decided, decided, part-free}
 use Rattle.blocks.proofs.search.search_row.Statement.{statement}
 use Rattle.blocks.proofs.search.search_row.Tie as tie
 
@@ -40,6 +40,14 @@ module _ (c : tie.After-free-bits) where
       c .free-bits .ensures ∙ ap (bitsOf (freeIn (part given)) 0) (slots given)
       ∙ bits-same (freeIn (part given)) (freeIn s) 0 (given .args .from) _ (λ j l. rw zero-add (part-free r j l))
 
+-- where they are decided, or not
+module _ (c : tie.After-decided) where
+  abbrev read : tie.After-free-bits
+  read = c .before .before
+
+  verdict : let a = given read .args in Decided 4 (read .free-bits .result) (a .from) (a .k) (a .e) (c .decided .result)
+  verdict = decided 4 _ _ _ _ (given read .pre .0) (given read .pre .1) (omega arith) _ (c .decided .ensures)
+
 free-bits-requires : tie.Need-free-bits-requires
 free-bits-requires c κs = omega (arith, slots (c .before), few (c .before))
 
@@ -53,18 +61,18 @@ decided-requires : tie.Need-decided-requires
 decided-requires c κs = search needs
 
 returns : tie.Need-returns
-returns c s r = c .before .decided .ensures .answer (c .if1 .taken) (freeIn s) (bits-of-table (c .before .before .before) s r)
+returns c s r = verdict (c .before) .answer (c .if1 .taken) (freeIn s) (bits-of-table (c .before .before .before) s r)
 
 search-bits-requires : tie.Need-search-bits-requires
 search-bits-requires c κs =
-    let d = c .before .decided .ensures in
+    let d = verdict (c .before) in
     (omega arith, d .above (c .if1 .left), omega arith, omega arith)
 
 returns-2 : tie.Need-returns-2
 returns-2 c s r =
     let b = c .before .before .before .before in
     let known = bits-of-table b s r in
-    c .search-bits .ensures (freeIn s) known (c .before .before .decided .ensures .mixed (c .before .if1 .left) (freeIn s) known)
+    c .search-bits .ensures (freeIn s) known (verdict (c .before .before) .mixed (c .before .if1 .left) (freeIn s) known)
 
 pub search-row-spec : {M : Type 1} → statement M
 search-row-spec =
