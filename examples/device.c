@@ -1,4 +1,4 @@
-/* A device's session: direct calls on a heap of 64 bytes, a take written record by record, and its run. */
+/* A device's session: direct calls on a heap of 64 bytes, a take written record by record, and its run by both callers. */
 
 #include <stdio.h>
 
@@ -80,6 +80,9 @@ static void run_take(const uint8_t *file, size_t length)
                (unsigned)place.next, (unsigned)b[0], (unsigned)value);
         at = place.next;
     }
+    ran = tulivombe_run_panel(file, length, arena, sizeof arena, table, sizeof table, answers, sizeof answers);
+    printf("from the panel: number %u, %u records, register 2 holds %u\n", (unsigned)ran.number,
+           (unsigned)ran.count, (unsigned)ran.registers[2]);
     ran = tulivombe_run(file, length - 1, arena, sizeof arena, table, sizeof table, answers, sizeof answers);
     printf("cut short: number %u, %u records\n", (unsigned)ran.number, (unsigned)ran.count);
 }

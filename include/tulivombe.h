@@ -14,7 +14,7 @@
  * tulivombe_step takes it.
  *
  * Answers. `number` is 0 or says why the call was refused; a refused call has value 0 and changes
- * nothing. Where several reasons apply, the lowest number is given.
+ * nothing. Where several reasons apply, the first of the call's list ("Refused: ..") is given.
  */
 #ifndef TULIVOMBE_H
 #define TULIVOMBE_H
@@ -29,8 +29,9 @@ extern "C" {
 #define TULIVOMBE_BASE UINT32_C(65536)
 #define TULIVOMBE_MARK UINT32_C(2147483648)
 #define TULIVOMBE_REGISTERS 16
+#define TULIVOMBE_SCREENFUL 64
 
-/* What `number` can say. 1 to 13 speak of the input, 20 and up of the heap's state. */
+/* What `number` can say. 1 to 13 and 26 speak of the input, 20 to 25 of the heap's state. */
 enum tulivombe_number {
     TULIVOMBE_OK = 0,
     TULIVOMBE_VERSION = 1,           /* file empty, or its first byte is not 01 */
@@ -51,7 +52,8 @@ enum tulivombe_number {
     TULIVOMBE_NO_REFERENT = 22,      /* a pointer belongs to no live block */
     TULIVOMBE_NOT_THE_START = 23,    /* give: not the block's start */
     TULIVOMBE_BEYOND_REACH = 24,     /* step: more than 8 bytes outside the block */
-    TULIVOMBE_PAST_THE_END = 25      /* read, write: the last byte lies outside the block */
+    TULIVOMBE_PAST_THE_END = 25,     /* read, write: the last byte lies outside the block */
+    TULIVOMBE_TOO_MANY_RECORDS = 26  /* front panel: more than TULIVOMBE_SCREENFUL records */
 };
 
 /* A call's answer. */
@@ -140,11 +142,18 @@ tulivombe_answer tulivombe_check(const uint8_t *arena, size_t arena_len, const u
 tulivombe_part tulivombe_show(const uint8_t *arena, size_t arena_len, const uint8_t *table, size_t table_len,
                               uint32_t p);
 
-/* Runs a take on a heap that it first makes fresh. The arena's length must be the file's size and the answer
- * slice hold 5 bytes a record: number, then value big-endian; its bytes past them stay. The file is
- * judged whole before any call; a refused record ends nothing. Refused: 1 to 9, and then nothing is changed. */
+/* Runs a take, an upload from a computer, on a heap that it first makes fresh. The arena's length must be the
+ * file's size and the answer slice hold 5 bytes a record: number, then value big-endian; its bytes past them
+ * stay. The file is judged whole before any call, its records in their order, each for 4 to 7; a refused record
+ * ends nothing. Refused: 1 to 9, and then nothing is changed. */
 tulivombe_ran tulivombe_run(const uint8_t *file, size_t file_len, uint8_t *arena, size_t arena_len,
                             uint8_t *table, size_t table_len, uint8_t *answers, size_t answers_len);
+
+/* Runs a take from the front panel, whose screen can list TULIVOMBE_SCREENFUL records: a good file of more is
+ * refused 26, whatever is lent. In every other case the outcome is that of tulivombe_run, refusals included.
+ * Refused: 1 to 7, 26, 8, 9, and then nothing is changed. */
+tulivombe_ran tulivombe_run_panel(const uint8_t *file, size_t file_len, uint8_t *arena, size_t arena_len,
+                                  uint8_t *table, size_t table_len, uint8_t *answers, size_t answers_len);
 
 /* Makes a list of calls on a heap that it first makes fresh, and stores 5 bytes a call in `out`, as a run
  * does; its bytes past them stay. A call is 14 bytes: the operation as in a record, a byte x, and three numbers

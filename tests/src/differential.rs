@@ -5,7 +5,7 @@ use crate::lent::Lent;
 use crate::plain::takes::Record;
 use crate::plain_c::PlainC;
 use crate::random::{self, Rng};
-use crate::subject::{Answer, Plain, Subject};
+use crate::subject::{Answer, Caller, Plain, Subject};
 
 /// How often each number was the answer.
 #[derive(Default)]
@@ -169,8 +169,8 @@ fn agreed(call: Call, answers: [Answer; 2], known: &mut Vec<u32>, what: &str) ->
     answers[0].number
 }
 
-/// Random and broken files, run on buffers that fit or not. Gives the runs' numbers and the records'.
-pub fn runs<A: Subject, B: Subject>(rng: &mut Rng, files: u32, largest: u32) -> (Tally, Tally) {
+/// Random and broken files, run by the caller on buffers that fit or not. Gives the runs' numbers and the records'.
+pub fn runs<A: Subject, B: Subject>(rng: &mut Rng, caller: Caller, files: u32, largest: u32) -> (Tally, Tally) {
     let mut tally = Tally::default();
     let mut records = Tally::default();
     for index in 0..files {
@@ -192,9 +192,9 @@ pub fn runs<A: Subject, B: Subject>(rng: &mut Rng, files: u32, largest: u32) -> 
         let before = lent.clone();
         let Twins { arenas: [a0, a1], tables: [t0, t1] } = &mut heaps;
         let [o0, o1] = &mut answers;
-        let first = A::run(lent.bytes(), a0.bytes_mut(), t0.bytes_mut(), o0.bytes_mut());
-        let second = B::run(lent.bytes(), a1.bytes_mut(), t1.bytes_mut(), o1.bytes_mut());
-        let what = format!("{} and {}, run {index}, file {file:02x?}", A::NAME, B::NAME);
+        let first = caller.run::<A>(lent.bytes(), a0.bytes_mut(), t0.bytes_mut(), o0.bytes_mut());
+        let second = caller.run::<B>(lent.bytes(), a1.bytes_mut(), t1.bytes_mut(), o1.bytes_mut());
+        let what = format!("{} and {}, run {index}, {caller:?}, file {file:02x?}", A::NAME, B::NAME);
         assert_eq!(first, second, "{what}");
         heaps.compare(&what);
         same_buffer("answer slice", &answers, &what);

@@ -1,4 +1,4 @@
-//! Document 01 seen from outside: a plain Rust implementation, the ledger, and what the tests and
+//! Documents 01 and 02 seen from outside: a plain Rust implementation, the ledger, and what the tests and
 //! benchmarks need to hold the proved library against them.
 
 pub mod call;

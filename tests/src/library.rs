@@ -40,6 +40,7 @@ unsafe extern "C" {
     fn tulivombe_check(arena: *const u8, arena_len: usize, table: *const u8, table_len: usize, h: u32, i: u32) -> Answer;
     fn tulivombe_show(arena: *const u8, arena_len: usize, table: *const u8, table_len: usize, p: u32) -> Part;
     fn tulivombe_run(file: *const u8, file_len: usize, arena: *mut u8, arena_len: usize, table: *mut u8, table_len: usize, answers: *mut u8, answers_len: usize) -> Ran;
+    fn tulivombe_run_panel(file: *const u8, file_len: usize, arena: *mut u8, arena_len: usize, table: *mut u8, table_len: usize, answers: *mut u8, answers_len: usize) -> Ran;
     fn tulivombe_replay(arena: *mut u8, arena_len: usize, table: *mut u8, table_len: usize, calls: *const u8, calls_len: usize, out: *mut u8, out_len: usize) -> u32;
     fn tulivombe_read_record(file: *const u8, file_len: usize, at: usize) -> FlatPlace;
     fn tulivombe_write_head(out: *mut u8, out_len: usize, m: u32) -> Answer;
@@ -110,6 +111,12 @@ impl Subject for Library {
     fn run(file: &[u8], arena: &mut [u8], table: &mut [u8], answers: &mut [u8]) -> Ran {
         let (f, a, t, o) = (file.as_ptr(), arena.as_mut_ptr(), table.as_mut_ptr(), answers.as_mut_ptr());
         unsafe { tulivombe_run(f, file.len(), a, arena.len(), t, table.len(), o, answers.len()) }
+    }
+
+    #[inline]
+    fn run_panel(file: &[u8], arena: &mut [u8], table: &mut [u8], answers: &mut [u8]) -> Ran {
+        let (f, a, t, o) = (file.as_ptr(), arena.as_mut_ptr(), table.as_mut_ptr(), answers.as_mut_ptr());
+        unsafe { tulivombe_run_panel(f, file.len(), a, arena.len(), t, table.len(), o, answers.len()) }
     }
 
     #[inline]

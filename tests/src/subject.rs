@@ -1,4 +1,4 @@
-//! What the tests and benchmarks ask of an implementation of document 01.
+//! What the tests and benchmarks ask of an implementation of documents 01 and 02.
 
 use crate::plain::{heap, replay, runner, takes, takes::Record, Refusal};
 
@@ -43,6 +43,32 @@ pub struct Ran {
     pub count: u32,
 }
 
+impl From<Result<runner::Finished, Refusal>> for Ran {
+    fn from(outcome: Result<runner::Finished, Refusal>) -> Ran {
+        match outcome {
+            Ok(done) => Ran { number: 0, count: done.count as u32, registers: done.registers },
+            Err(refusal) => Ran { number: refusal.number(), count: 0, registers: [0; 16] },
+        }
+    }
+}
+
+/// Who runs a take.
+#[derive(Clone, Copy, Debug, PartialEq, Eq)]
+pub enum Caller {
+    Upload,
+    Panel,
+}
+
+impl Caller {
+    /// The subject's run for this caller.
+    pub fn run<S: Subject>(self, file: &[u8], arena: &mut [u8], table: &mut [u8], answers: &mut [u8]) -> Ran {
+        match self {
+            Caller::Upload => S::run(file, arena, table, answers),
+            Caller::Panel => S::run_panel(file, arena, table, answers),
+        }
+    }
+}
+
 /// What the reader gives: the record and the next place, or a refusal's number.
 pub type Place = Result<(Record, usize), u32>;
 
@@ -60,6 +86,7 @@ pub trait Subject {
     fn check(arena: &[u8], table: &[u8], h: u32, i: u32) -> Answer;
     fn show(arena: &[u8], table: &[u8], p: u32) -> Part;
     fn run(file: &[u8], arena: &mut [u8], table: &mut [u8], answers: &mut [u8]) -> Ran;
+    fn run_panel(file: &[u8], arena: &mut [u8], table: &mut [u8], answers: &mut [u8]) -> Ran;
     fn replay(arena: &mut [u8], table: &mut [u8], calls: &[u8], out: &mut [u8]) -> u32;
     fn read_record(file: &[u8], at: usize) -> Place;
     fn write_head(out: &mut [u8], m: u32) -> Answer;
@@ -135,10 +162,12 @@ impl Subject for Plain {
 
     #[inline(never)]
     fn run(file: &[u8], arena: &mut [u8], table: &mut [u8], answers: &mut [u8]) -> Ran {
-        match runner::run(file, arena, table, answers) {
-            Ok(done) => Ran { number: 0, count: done.count as u32, registers: done.registers },
-            Err(refusal) => Ran { number: refusal.number(), count: 0, registers: [0; 16] },
-        }
+        runner::run(file, arena, table, answers).into()
+    }
+
+    #[inline(never)]
+    fn run_panel(file: &[u8], arena: &mut [u8], table: &mut [u8], answers: &mut [u8]) -> Ran {
+        runner::run_panel(file, arena, table, answers).into()
     }
 
     #[inline(never)]

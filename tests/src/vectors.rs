@@ -1,8 +1,8 @@
-//! The stored vectors: takes with what `takerun` prints, and direct calls on one heap.
+//! The stored vectors: takes with what `takerun` prints, direct calls on one heap, and runs by either caller.
 
 use crate::call::Call;
 use crate::plain::runner::printed;
-use crate::subject::{Answer, Subject};
+use crate::subject::{Answer, Caller, Ran, Subject};
 use std::fs;
 use std::path::{Path, PathBuf};
 
@@ -53,6 +53,37 @@ pub fn calls<S: Subject>() -> usize {
         }
     }
     paths.len()
+}
+
+/// Makes each run of `01/runs.txt` and compares what it returns and leaves.
+pub fn runs<S: Subject>() -> usize {
+    let path = Path::new(env!("CARGO_MANIFEST_DIR")).join("vectors/01/runs.txt");
+    let text = fs::read_to_string(&path).unwrap_or_else(|e| panic!("{}: {e}", path.display()));
+    for (index, line) in text.lines().enumerate() {
+        if let Err(found) = run::<S>(line) {
+            panic!("{}: {}:{}: found {found}", S::NAME, path.display(), index + 1);
+        }
+    }
+    text.lines().count()
+}
+
+/// One line: the caller, the file, what is lent; then what is returned, and the three slices as they are left.
+fn run<S: Subject>(line: &str) -> Result<(), String> {
+    let words: Vec<&str> = line.split_whitespace().collect();
+    let number = |k: usize| -> u32 { words[k].parse().expect("a number") };
+    let names = [words[2], words[4], words[6], words[8], words[10]];
+    assert_eq!(names, ["fill", "arena", "table", "answers", "="], "{line}");
+    let caller = match words[0] {
+        "run" => Caller::Upload,
+        "panel" => Caller::Panel,
+        other => panic!("no such run: {other}"),
+    };
+    let lent = |k: usize| vec![number(3) as u8; number(k) as usize];
+    let (mut arena, mut table, mut answers) = (lent(5), lent(7), lent(9));
+    let ran = caller.run::<S>(&bytes(words[1]), &mut arena, &mut table, &mut answers);
+    let registers = std::array::from_fn(|register| number(13 + register));
+    same(ran, Ran { number: number(11), count: number(12), registers })?;
+    same([answers, arena, table], [bytes(words[29]), bytes(words[30]), bytes(words[31])])
 }
 
 struct Heap {
@@ -120,6 +151,13 @@ fn same<T: PartialEq + std::fmt::Debug>(found: T, expected: T) -> Result<(), Str
     } else {
         Err(format!("{found:?}"))
     }
+}
+
+/// The bytes of a hexadecimal word, `-` for none.
+fn bytes(word: &str) -> Vec<u8> {
+    let digits = if word == "-" { "" } else { word };
+    let byte = |at: usize| u8::from_str_radix(&digits[at..at + 2], 16).expect("two hexadecimal digits");
+    (0..digits.len()).step_by(2).map(byte).collect()
 }
 
 fn hexadecimal(bytes: &[u8]) -> String {

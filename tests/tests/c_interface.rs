@@ -1,4 +1,5 @@
-//! The header from C and C++ with all warnings on, its types against the Rust declarations, and the C example.
+//! The header from C and C++ with all warnings on, its types and the panel's numbers against the Rust declarations, and
+//! the C example.
 
 use std::path::{Path, PathBuf};
 use std::process::Command;
@@ -41,6 +42,8 @@ mod library {
     use super::*;
     use std::mem::{offset_of, size_of};
     use tulivombe_tests::library::{write_flat, FlatPlace, FlatRecord};
+    use tulivombe_tests::plain::runner::SCREENFUL;
+    use tulivombe_tests::plain::Refusal;
     use tulivombe_tests::subject::{Answer, Part, Ran};
 
     /// Compiles a program as C or C++, links the library, and gives what it prints.
@@ -56,7 +59,7 @@ mod library {
     }
 
     #[test]
-    fn types_are_laid_out_alike() {
+    fn types_and_numbers_are_alike() {
         let expected = [
             ("answer", size_of::<Answer>()),
             ("answer.value", offset_of!(Answer, value)),
@@ -76,7 +79,8 @@ mod library {
             ("place.record", offset_of!(FlatPlace, record)),
             ("place.next", offset_of!(FlatPlace, next)),
         ];
-        let lines: String = expected.iter().map(|(name, number)| format!("tulivombe_{name} {number}\n")).collect();
+        let types: String = expected.iter().map(|(name, number)| format!("tulivombe_{name} {number}\n")).collect();
+        let lines = types + &format!("SCREENFUL {SCREENFUL}\nTOO_MANY_RECORDS {}\n", Refusal::TooManyRecords.number());
         assert_eq!(program("tests/c/layout.c", "c"), lines);
         assert_eq!(program("tests/c/layout.c", "c++"), lines);
     }

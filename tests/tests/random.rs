@@ -5,7 +5,7 @@ use tulivombe_tests::ledger;
 use tulivombe_tests::literal::Literal;
 use tulivombe_tests::plain::heap;
 use tulivombe_tests::random::{any_table, Rng};
-use tulivombe_tests::subject::{Plain, Subject};
+use tulivombe_tests::subject::{Caller, Plain, Subject};
 use tulivombe_tests::{differential, history};
 
 fn times() -> u32 {
@@ -18,14 +18,17 @@ fn compare<S: Subject, T: Subject>(name: &str, cases: u32, largest: u32) {
     let cases = cases * times();
     let calls = differential::calls::<S, T>(rng, cases, largest);
     assert_eq!(calls.met(), [0, 8, 10, 11, 12, 13, 20, 21, 22, 23, 24, 25]);
-    let (runs, records) = differential::runs::<S, T>(rng, cases, largest);
+    let (runs, records) = differential::runs::<S, T>(rng, Caller::Upload, cases, largest);
     assert_eq!(runs.met(), [0, 1, 2, 3, 4, 5, 6, 7, 8, 9]);
     assert_eq!(records.met(), [0, 10, 11, 12, 13, 21, 22, 23, 24, 25]);
+    let (panel_runs, panel_records) = differential::runs::<S, T>(rng, Caller::Panel, cases, largest);
+    assert_eq!(panel_runs.met(), [0, 1, 2, 3, 4, 5, 6, 7, 8, 9, 26]);
     let replays = differential::replays::<S, T>(rng, cases, largest);
     assert_eq!(replays.met(), [0, 4, 5, 8, 9]);
     differential::reader::<S, T>(rng, cases);
     differential::writer::<S, T>(rng, 4 * cases);
-    let (calls, runs, records) = (calls.total(), runs.total(), records.total());
+    let calls = calls.total();
+    let (runs, records) = (runs.total() + panel_runs.total(), records.total() + panel_records.total());
     println!("{name}: {calls} calls, {runs} files with {records} records carried out, {} replays", replays.total());
 }
 

@@ -1,5 +1,6 @@
-//! The stored vectors of document 01.
+//! The stored vectors of document 01, and of request 1 of document 02.
 
+use tulivombe_tests::literal::Literal;
 use tulivombe_tests::plain::runner;
 use tulivombe_tests::subject::{Plain, Subject};
 use tulivombe_tests::vectors;
@@ -7,11 +8,17 @@ use tulivombe_tests::vectors;
 fn all<S: Subject>() {
     assert_eq!(vectors::takes::<S>(), 48);
     assert_eq!(vectors::calls::<S>(), 48);
+    assert_eq!(vectors::runs::<S>(), 74);
 }
 
 #[test]
 fn plain() {
     all::<Plain>();
+}
+
+#[test]
+fn literal() {
+    all::<Literal>();
 }
 
 #[test]

@@ -1,15 +1,18 @@
-// The C interface: the heap's calls, run, replay, reader and writer under one prefix, with structs by value and slices as pointer and length. What C sees of it
-// stands in include/tulivombe.h.
+// The C interface: the heap's calls, both runs, replay, reader and writer under one prefix, with structs by value and slices as pointer and length. What C sees
+// of it stands in include/tulivombe.h.
 use heap::Answer;
 use runner::Ran;
 use takes::Reading;
 use takes::Record;
 ghost use mathlib.Core.Path.{_≡_};
+ghost use Prim.Native.Nat.{_≤_};
+ghost use lib.ListN.{length};
 ghost use Rattle.heap.specs.Heaps.{heapOf, outcome, heapCall, heapFresh, heapCheck};
 ghost use Rattle.heap.specs.declared.Call.the-variants.{Get, Give, Step, Read, Write, Left, Copy, Fill};
 ghost use Rattle.history.specs.Replaying.{replayed, replayOf};
-ghost use Rattle.runner.specs.Runs.{runOf};
+ghost use Rattle.runner.specs.Runs.{screenful, runOf, panelOf};
 ghost use Rattle.runner.specs.Carrying.{ranTo};
+ghost use Rattle.takes.specs.Files.{recordsOf};
 ghost use Rattle.takes.specs.Reading.{readAt};
 ghost use Rattle.takes.specs.Writing.{writeHead};
 ghost use Rattle.cabi.specs.Flat.{flatOf, flat, placed, recordOf, storedBy, writeFlat};
@@ -143,6 +146,25 @@ pub extern "C" fn tulivombe_run(
     ensures { λ r. ⌜ ranTo r (now (arena .exit)) (now (table .exit)) (now (answers .exit)) ≡ runOf (now (file .entry)) (heapOf (now (arena .entry)) (now (table .entry))) (now (answers .entry)) ⌝ }
 {
     runner::run(file, arena, table, answers)
+}
+
+#[no_mangle]
+pub extern "C" fn tulivombe_run_panel(
+    file: &[u8],
+    arena: &mut [u8],
+    table: &mut [u8],
+    answers: &mut [u8],
+) -> Ran
+    ensures { λ r. ⌜ ranTo r (now (arena .exit)) (now (table .exit)) (now (answers .exit))
+        ≡ panelOf (now (file .entry)) (heapOf (now (arena .entry)) (now (table .entry))) (now (answers .entry)) ⌝ }
+    ensures { λ r. ⌜ (r .number ≡ 0
+        → ranTo r (now (arena .exit)) (now (table .exit)) (now (answers .exit))
+        ≡ runOf (now (file .entry)) (heapOf (now (arena .entry)) (now (table .entry))) (now (answers .entry))) ⌝ }
+    ensures { λ r. ⌜ (length (recordsOf (now (file .entry))) ≤ screenful
+        → ranTo r (now (arena .exit)) (now (table .exit)) (now (answers .exit))
+        ≡ runOf (now (file .entry)) (heapOf (now (arena .entry)) (now (table .entry))) (now (answers .entry))) ⌝ }
+{
+    runner::run_panel(file, arena, table, answers)
 }
 
 #[no_mangle]

@@ -1,7 +1,7 @@
 -- A run's refusals, each where the code returns it, and what is known where there is none.
 use Prim.Native.Nat.{ℕ, zero, suc, _-_, _*_, _^_, _≤_, _<_}
 use mathlib.Core.Path.{_≡_, refl, sym, _∙_, ap}
-use mathlib.Core.Bool.{Bool, true, false, not, cond, _||_}
+use mathlib.Core.Bool.{Bool, true, false, not, cond, _||_, _&&_}
 use mathlib.Core.List.{List}
 use native.Mathlib.Omega.{arith}
 use lib.Dec.{eqb, ltb}
@@ -13,15 +13,16 @@ use Rattle.takes.specs.declared.Judgement.{Judgement}
 use Rattle.heap.specs.Views.{slotOrder}
 use Rattle.heap.specs.Heaps.{Heap, heapOf}
 use Rattle.runner.specs.Registers.{registersAtFirst}
-use Rattle.runner.specs.Runs.{RunOutcome, runRules, runSettled, runOf}
+use Rattle.runner.specs.Runs.{RunOutcome, screenful, crowded, runRules, runSettled, runBy}
 use Rattle.runner.specs.Carrying.{State, stateOf, atFirst, allRecords, Runnable, ranTo}
 use Rattle.runner.specs.declared.Ran.{Ran}
-use Rattle.runner.proofs.Files.{clear, unless, Accepted, accepted-file, few}
+use Rattle.runner.proofs.Files.{clear, unless, accepted-file, few}
 
 pub judge-refused : (file : List ℕ) (j : Judgement) → j ≡ judgement file → (j .number ≡ 0 → ⊥) → fileNumber file ≡ j .number
 judge-refused file j e d = go (eqb (fileNumber file) 0) e
   where
-    go : (b : Bool) → j ≡ cond b (record { number = 0; size = sizeByte file; count = length (recordsOf file) }) (record { number = fileNumber file; size = 0; count = 0 })
+    go : (b : Bool)
+        → j ≡ cond b (record { number = 0; size = sizeByte file; count = length (recordsOf file) }) (record { number = fileNumber file; size = 0; count = 0 })
         → fileNumber file ≡ j .number
     go true e = absurd (d (ap (λ (j : Judgement). j .number) e))
     go false e = sym (ap (λ (j : Judgement). j .number) e)
@@ -38,7 +39,12 @@ judge-accepted file j e z = go (eqb (fileNumber file) 0) refl e
     go : (b : Bool) → eqb (fileNumber file) 0 ≡ b
         → j ≡ cond b (record { number = 0; size = sizeByte file; count = length (recordsOf file) }) (record { number = fileNumber file; size = 0; count = 0 })
         → Judged file j
-    go true q e = record { judged = eqb-true (fileNumber file) 0 q; size = sym (ap (λ (j : Judgement). j .size) e); count = sym (ap (λ (j : Judgement). j .count) e) }
+    go true q e =
+        record {
+          judged = eqb-true (fileNumber file) 0 q;
+          size = sym (ap (λ (j : Judgement). j .size) e);
+          count = sym (ap (λ (j : Judgement). j .count) e);
+        }
     go false q e = absurd (eqb-false (fileNumber file) 0 q (sym (ap (λ (j : Judgement). j .number) e) ∙ z))
 
 -- no more records than bytes
@@ -46,53 +52,85 @@ pub count-short : (file : List ℕ) (j : Judgement) → Judged file j → j .cou
 unfolding recordsOf
 count-short file j g = omega (arith, few file (length file) headLength, accepted-file file (g .judged) .head .short, g .count)
 
-module _ (file a t out : List ℕ) where
-  pub run-refused : (k : ℕ) (r : Ran) → r ≡ record { number = k; registers = record { values = registersAtFirst }; count = 0 }
-      → (k ≡ 0 → ⊥) → first (runRules file (heapOf a t) out) ≡ k → ranTo r a t out ≡ runOf file (heapOf a t) out
-  unfolding runOf
-  run-refused zero r e d z = absurd (d refl)
-  run-refused (suc k) r e d z = rw (e, z)
+-- the panel's own rule, by the two tests that the code makes of it, n being the count of the records
+module _ (panel : Bool) (file : List ℕ) where
+  pub screen-full : (n : ℕ) → length (recordsOf file) ≡ n → panel ≡ true → ltb screenful n ≡ true → (panel && crowded file) ≡ true
+  screen-full n e p b = rw (e, p, b)
 
-  pub by-file : (fileNumber file ≡ 0 → ⊥) → first (runRules file (heapOf a t) out) ≡ fileNumber file
-  by-file d = rw (ne-eqb (fileNumber file) 0 d)
+  pub screen-room : (n : ℕ) → length (recordsOf file) ≡ n → ltb screenful n ≡ false → (panel && crowded file) ≡ false
+  screen-room n e b = go panel
+    where
+      go : (p : Bool) → (p && crowded file) ≡ false
+      go true = ap (ltb screenful) e ∙ b
+      go false = refl
 
-  module _ (z : fileNumber file ≡ 0) where
-    pub by-arena : (length a ≡ 2 ^ sizeByte file → ⊥) → first (runRules file (heapOf a t) out) ≡ 8
-    by-arena d = rw (z, ne-eqb (length a) (2 ^ sizeByte file) d)
+  pub no-screen : panel ≡ false → (panel && crowded file) ≡ false
+  no-screen p = rw p
+
+-- of a run by either caller on what is lent
+module _ (panel : Bool) (file a t out : List ℕ) where
+  -- the first refusal that applies
+  abbrev number : ℕ
+  number = first (runRules panel file (heapOf a t) out)
+
+  -- what is returned with the number k, nothing changed, is the run's outcome
+  abbrev RefusedBy : ℕ → Type 0
+  RefusedBy k =
+      (r : Ran) → r ≡ record { number = k; registers = record { values = registersAtFirst }; count = 0 } → ranTo r a t out ≡ runBy panel file (heapOf a t) out
+
+  refused-by : (k : ℕ) → (k ≡ 0 → ⊥) → number ≡ k → RefusedBy k
+  unfolding runBy
+  refused-by zero d z r e = absurd (d refl)
+  refused-by (suc k) d z r e = rw (e, z)
+
+  pub by-file : (k : ℕ) → (k ≡ 0 → ⊥) → fileNumber file ≡ k → RefusedBy k
+  by-file k d e = refused-by k d (rw (ne-eqb (fileNumber file) 0 (λ z. d (sym e ∙ z)), e))
+
+  pub by-screen : fileNumber file ≡ 0 → (panel && crowded file) ≡ true → RefusedBy 26
+  by-screen z b = refused-by 26 (λ z. omega arith) (rw (z, b))
+
+  module _ (z : fileNumber file ≡ 0) (b : (panel && crowded file) ≡ false) where
+    pub by-arena : (length a ≡ 2 ^ sizeByte file → ⊥) → RefusedBy 8
+    by-arena d = refused-by 8 (λ z. omega arith) (rw (z, b, ne-eqb (length a) (2 ^ sizeByte file) d))
 
     module _ (p : length a ≡ 2 ^ sizeByte file) where
-      pub by-table : (length t ≡ 2 ^ (sizeByte file - slotOrder) → ⊥) → first (runRules file (heapOf a t) out) ≡ 8
-      by-table d = rw (z, eq-eqb (length a) (2 ^ sizeByte file) p, ne-eqb (length t) (2 ^ (sizeByte file - slotOrder)) d)
+      pub by-table : (length t ≡ 2 ^ (sizeByte file - slotOrder) → ⊥) → RefusedBy 8
+      by-table d =
+          refused-by 8 (λ z. omega arith) (rw (z, b, eq-eqb (length a) (2 ^ sizeByte file) p, ne-eqb (length t) (2 ^ (sizeByte file - slotOrder)) d))
 
       module _ (q : length t ≡ 2 ^ (sizeByte file - slotOrder)) where
-        pub by-room : length out < 5 * length (recordsOf file) → first (runRules file (heapOf a t) out) ≡ 9
-        by-room l =
-            rw (z, eq-eqb (length a) (2 ^ sizeByte file) p, eq-eqb (length t) (2 ^ (sizeByte file - slotOrder)) q, lt-ltb (length out) (5 * length (recordsOf file)) l)
+        fits : (x : Bool) → ltb (length out) (5 * length (recordsOf file)) ≡ x → number ≡ cond x 9 0
+        fits x l = rw (z, b, eq-eqb (length a) (2 ^ sizeByte file) p, eq-eqb (length t) (2 ^ (sizeByte file - slotOrder)) q, l)
 
-        by-none : 5 * length (recordsOf file) ≤ length out → first (runRules file (heapOf a t) out) ≡ 0
-        by-none l =
-            rw (z, eq-eqb (length a) (2 ^ sizeByte file) p, eq-eqb (length t) (2 ^ (sizeByte file - slotOrder)) q, le-ltb (length out) (5 * length (recordsOf file)) l)
+        pub by-room : length out < 5 * length (recordsOf file) → RefusedBy 9
+        by-room l = refused-by 9 (λ z. omega arith) (fits true (lt-ltb (length out) (5 * length (recordsOf file)) l))
 
-  pub run-done : (m : ℕ) → Runnable m file a t out → (r : Ran) (a′ t′ out′ : List ℕ) → r .number ≡ 0 → r .count ≡ length (recordsOf file)
-      → stateOf a′ t′ (r .registers .values) out′ ≡ allRecords (recordsOf file) 0 (atFirst m out) → ranTo r a′ t′ out′ ≡ runOf file (heapOf a t) out
-  unfolding runOf
-  run-done m g r a′ t′ out′ n k e =
+        by-none : 5 * length (recordsOf file) ≤ length out → number ≡ 0
+        by-none l = fits false (le-ltb (length out) (5 * length (recordsOf file)) l)
+
+  pub run-done : (m : ℕ) → Runnable m file a t out → (panel && crowded file) ≡ false → (r : Ran) (a′ t′ out′ : List ℕ) → r .number ≡ 0
+      → r .count ≡ length (recordsOf file) → stateOf a′ t′ (r .registers .values) out′ ≡ allRecords (recordsOf file) 0 (atFirst m out)
+      → ranTo r a′ t′ out′ ≡ runBy panel file (heapOf a t) out
+  unfolding runBy
+  run-done m g b r a′ t′ out′ n k e =
       let p : length a ≡ 2 ^ sizeByte file = g .size ∙ ap (λ (m : ℕ). 2 ^ m) (sym (g .same)) in
       let q : length t ≡ 2 ^ (sizeByte file - slotOrder) = g .slots ∙ ap (λ (m : ℕ). 2 ^ (m - slotOrder)) (sym (g .same)) in
-      rw (by-none (g .judged) p q (g .room), n, k, g .same)
+      rw (by-none (g .judged) b p q (g .room), n, k, g .same)
       (ap (λ (s : State). record { number = 0; registers = s .registers; count = length (recordsOf file); heap = s .heap; answers = s .answers }) e)
 
 -- an accepted run had room for its answers
-pub ran-room : (file out : List ℕ) (h : Heap) (r : Ran) (a t out′ : List ℕ) → ranTo r a t out′ ≡ runOf file h out → r .number ≡ 0 → 5 * r .count ≤ length out
-unfolding runOf
-ran-room file out h r a t out′ e z = go (first (runRules file h out)) refl e
+pub ran-room : (panel : Bool) (file out : List ℕ) (h : Heap) (r : Ran) (a t out′ : List ℕ) → ranTo r a t out′ ≡ runBy panel file h out
+    → r .number ≡ 0 → 5 * r .count ≤ length out
+unfolding runBy
+ran-room panel file out h r a t out′ e z = go (first (runRules panel file h out)) refl e
   where
-    go : (k : ℕ) → first (runRules file h out) ≡ k → ranTo r a t out′ ≡ runSettled k file h out → 5 * r .count ≤ length out
+    go : (k : ℕ) → first (runRules panel file h out) ≡ k → ranTo r a t out′ ≡ runSettled k file h out → 5 * r .count ≤ length out
     go zero k e =
         let short : Bool = ltb (length out) (5 * length (recordsOf file)) in
         let wrong : Bool = not (eqb (length (h .arena)) (2 ^ sizeByte file)) || not (eqb (length (h .table)) (2 ^ (sizeByte file - slotOrder))) in
-        let two = unless (fileNumber file) (cond wrong 8 (cond short 9 0)) k in
-        let three = clear 8 wrong (cond short 9 0) (λ z. omega arith) (two .1) in
-        let four = clear 9 short 0 (λ z. omega arith) (three .1) in
-        omega (arith, ltb-false (length out) (5 * length (recordsOf file)) (four .0), ap (λ (o : RunOutcome). o .count) e)
+        let two = unless (fileNumber file) (cond (panel && crowded file) 26 (cond wrong 8 (cond short 9 0))) k in
+        let three = clear 26 (panel && crowded file) (cond wrong 8 (cond short 9 0)) (λ z. omega arith) (two .1) in
+        let four = clear 8 wrong (cond short 9 0) (λ z. omega arith) (three .1) in
+        let five = clear 9 short 0 (λ z. omega arith) (four .1) in
+        omega (arith, ltb-false (length out) (5 * length (recordsOf file)) (five .0), ap (λ (o : RunOutcome). o .count) e)
     go (suc k) q e = absurd (omega (arith, ap (λ (o : RunOutcome). o .number) e))

@@ -1,5 +1,6 @@
 pub mod Registers
 pub mod Runs
+pub mod Panel
 pub mod Carrying
 pub mod Examples
 pub mod Vectors

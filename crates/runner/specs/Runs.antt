@@ -1,6 +1,6 @@
--- Document 01, "A take": a run of a file on a lent arena, table and answer slice.
-use Prim.Native.Nat.{ℕ, zero, suc, _+_, _-_, _*_, _^_}
-use mathlib.Core.Bool.{Bool, not, cond, _||_}
+-- Document 01, "A take", and document 02, "Panel takes": a run of a file, uploaded or from the front panel, on a lent arena, table and answer slice.
+use Prim.Native.Nat.{ℕ, zero, suc, _-_, _*_, _^_}
+use mathlib.Core.Bool.{Bool, true, false, not, _||_, _&&_}
 use mathlib.Core.List.{List, [], _∷_}
 use lib.Dec.{eqb, ltb}
 use lib.ListN.{length}
@@ -9,8 +9,7 @@ use Rattle.common.specs.Bytes.{over}
 use Rattle.takes.specs.Files.{sizeByte, fileNumber, recordsOf}
 use Rattle.takes.specs.declared.Record.{Record}
 use Rattle.heap.specs.Views.{slotOrder}
-use Rattle.heap.specs.Effects.{Outcome}
-use Rattle.heap.specs.Heaps.{Heap, heapOf, heapCall, freshHeap}
+use Rattle.heap.specs.Heaps.{Heap, heapCall, freshHeap}
 use Rattle.heap.specs.Answers.{answersBytes}
 use Rattle.heap.specs.declared.Answer.{Answer}
 use Rattle.runner.specs.Registers.{registersAtFirst, callOf, registersAfter}
@@ -29,10 +28,19 @@ carryOut (r ∷ rest) h rs =
     let next = carryOut rest (o .state) (registersAfter r (o .answer) rs) in
     record { answers = o .answer ∷ next .answers; heap = next .heap; registers = next .registers }
 
--- the file's refusals 1 to 7, then 8 and 9, all before any call
-abbrev pub runRules : List ℕ → Heap → List ℕ → List Refusal
-runRules file h out =
+-- how many records the front panel's screen can list
+abbrev pub screenful : ℕ
+screenful = 64
+
+-- more records than the screen lists
+abbrev pub crowded : List ℕ → Bool
+crowded file = ltb screenful (length (recordsOf file))
+
+-- the file's refusals 1 to 7, 26 where the panel runs it, then 8 and 9, all before any call
+abbrev pub runRules : Bool → List ℕ → Heap → List ℕ → List Refusal
+runRules panel file h out =
     fileNumber file when not (eqb (fileNumber file) 0)
+    ∷ 26 when (panel && crowded file)
     ∷ 8 when (not (eqb (length (h .arena)) (2 ^ sizeByte file)) || not (eqb (length (h .table)) (2 ^ (sizeByte file - slotOrder))))
     ∷ 9 when ltb (length out) (5 * length (recordsOf file))
     ∷ []
@@ -58,5 +66,14 @@ runSettled zero file h out =
     }
 runSettled (suc n) file h out = record { number = suc n; registers = registersAtFirst; count = 0; heap = h; answers = out }
 
-unfoldable pub runOf : List ℕ → Heap → List ℕ → RunOutcome
-runOf file h out = runSettled (first (runRules file h out)) file h out
+-- a run by either caller
+unfoldable pub runBy : Bool → List ℕ → Heap → List ℕ → RunOutcome
+runBy panel file h out = runSettled (first (runRules panel file h out)) file h out
+
+-- an upload from a computer
+abbrev pub runOf : List ℕ → Heap → List ℕ → RunOutcome
+runOf file h out = runBy false file h out
+
+-- a take from the front panel
+abbrev pub panelOf : List ℕ → Heap → List ℕ → RunOutcome
+panelOf file h out = runBy true file h out

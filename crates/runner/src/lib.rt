@@ -9,7 +9,7 @@ ghost use Rattle.heap.specs.Heaps.{heapOf};
 ghost use Rattle.heap.specs.Judging.{Sound};
 ghost use Rattle.takes.specs.Files.{recordsOf};
 ghost use Rattle.runner.specs.Registers.{registersAtFirst};
-ghost use Rattle.runner.specs.Runs.{runOf};
+ghost use Rattle.runner.specs.Runs.{screenful, runBy, runOf, panelOf};
 ghost use Rattle.runner.specs.Carrying.{stateOf, atFirst, oneRecord, allRecords, Runnable, ranTo};
 
 pub mod registers;
@@ -24,6 +24,8 @@ pub struct Ran {
 
 // The place of the first record.
 const HEAD: usize = 2;
+// How many records the front panel's screen can list.
+const SCREENFUL: usize = 64;
 
 // Sixteen zero registers and count 0.
 fn refused(number: u32) -> Ran
@@ -87,14 +89,19 @@ fn carry_out(
     registers
 }
 
-// Runs a take on a lent arena and table. The file is judged whole before anything is changed.
-pub fn run(file: &[u8], arena: &mut [u8], table: &mut [u8], answers: &mut [u8]) -> Ran
-    ensures { λ r. ⌜ ranTo r (now (arena .exit)) (now (table .exit)) (now (answers .exit)) ≡ runOf (now (file .entry)) (heapOf (now (arena .entry)) (now (table .entry))) (now (answers .entry)) ⌝ }
+// The run of both callers, an upload and the front panel. The file is judged whole before anything is changed.
+fn run_by(panel: bool, file: &[u8], arena: &mut [u8], table: &mut [u8], answers: &mut [u8]) -> Ran
+    ensures { λ r. ⌜ ranTo r (now (arena .exit)) (now (table .exit)) (now (answers .exit))
+        ≡ runBy panel (now (file .entry)) (heapOf (now (arena .entry)) (now (table .entry))) (now (answers .entry)) ⌝ }
 {
     let judgement = takes::judge(file);
     let number = judgement.number;
     if number != 0 {
         return refused(number);
+    }
+    let count = judgement.count;
+    if panel && SCREENFUL < count {
+        return refused(26);
     }
     let m = judgement.size;
     if arena.len() != blocks::size_of(m) as usize {
@@ -103,14 +110,36 @@ pub fn run(file: &[u8], arena: &mut [u8], table: &mut [u8], answers: &mut [u8]) 
     if table.len() != blocks::size_of(m - 4) as usize {
         return refused(8);
     }
-    let count = judgement.count;
     if answers.len() / 5 < count {
         return refused(9);
     }
     let registers = carry_out(file, arena, table, answers, m);
+    let counted = count as u32;
     Ran {
         number: 0,
         registers,
-        count: count as u32,
+        count: counted,
     }
+}
+
+// Runs a take on a lent arena and table: an upload from a computer.
+pub fn run(file: &[u8], arena: &mut [u8], table: &mut [u8], answers: &mut [u8]) -> Ran
+    ensures { λ r. ⌜ ranTo r (now (arena .exit)) (now (table .exit)) (now (answers .exit)) ≡ runOf (now (file .entry)) (heapOf (now (arena .entry)) (now (table .entry))) (now (answers .entry)) ⌝ }
+{
+    run_by(false, file, arena, table, answers)
+}
+
+// Runs a take from the front panel: one of more records than its screen can list is refused 26. What it accepts, and whatever the screen can list, it runs
+// as an upload.
+pub fn run_panel(file: &[u8], arena: &mut [u8], table: &mut [u8], answers: &mut [u8]) -> Ran
+    ensures { λ r. ⌜ ranTo r (now (arena .exit)) (now (table .exit)) (now (answers .exit))
+        ≡ panelOf (now (file .entry)) (heapOf (now (arena .entry)) (now (table .entry))) (now (answers .entry)) ⌝ }
+    ensures { λ r. ⌜ (r .number ≡ 0
+        → ranTo r (now (arena .exit)) (now (table .exit)) (now (answers .exit))
+        ≡ runOf (now (file .entry)) (heapOf (now (arena .entry)) (now (table .entry))) (now (answers .entry))) ⌝ }
+    ensures { λ r. ⌜ (length (recordsOf (now (file .entry))) ≤ screenful
+        → ranTo r (now (arena .exit)) (now (table .exit)) (now (answers .exit))
+        ≡ runOf (now (file .entry)) (heapOf (now (arena .entry)) (now (table .entry))) (now (answers .entry))) ⌝ }
+{
+    run_by(true, file, arena, table, answers)
 }

@@ -1,5 +1,5 @@
-//! Document 01 in plain Rust, written from the paper alone. The tests compare the proved library with
-//! it, and the benchmarks take it for what one would use instead.
+//! Document 01 in plain Rust, with the requests of document 02 that have landed, written from the papers alone.
+//! The tests compare the proved library with it, and the benchmarks take it for what one would use instead.
 
 pub mod heap;
 pub mod replay;
@@ -29,6 +29,7 @@ pub enum Refusal {
     NotTheStart = 23,
     BeyondReach = 24,
     PastTheEnd = 25,
+    TooManyRecords = 26,
 }
 
 impl Refusal {

@@ -12,9 +12,30 @@ pub struct Finished {
     pub count: usize,
 }
 
+/// How many records the front panel's screen can list.
+pub const SCREENFUL: usize = 64;
+
 /// Judges the file and the buffers (1 to 9), makes the heap fresh and carries out each record.
 pub fn run(file: &[u8], arena: &mut [u8], table: &mut [u8], answers: &mut [u8]) -> Result<Finished, Refusal> {
+    run_up_to(usize::MAX, file, arena, table, answers)
+}
+
+/// The front panel's run: 26 after 7 and before 8.
+pub fn run_panel(file: &[u8], arena: &mut [u8], table: &mut [u8], answers: &mut [u8]) -> Result<Finished, Refusal> {
+    run_up_to(SCREENFUL, file, arena, table, answers)
+}
+
+fn run_up_to(
+    most: usize,
+    file: &[u8],
+    arena: &mut [u8],
+    table: &mut [u8],
+    answers: &mut [u8],
+) -> Result<Finished, Refusal> {
     let (m, count) = takes::judge(file)?;
+    if count > most {
+        return Err(TooManyRecords);
+    }
     if arena.len() != 1 << m || table.len() != arena.len() / 16 {
         return Err(Lengths);
     }

@@ -1,0 +1,126 @@
+//! Request 1 of document 02: both run calls side by side on takes of 63, 64, 65 and 70 records, good and bad.
+
+use tulivombe_tests::literal::Literal;
+use tulivombe_tests::plain::takes::{self, Record, LONGEST};
+use tulivombe_tests::subject::{Caller, Plain, Ran, Subject};
+
+const SIZE: usize = 256;
+
+/// A take for an arena of 256 bytes whose records use all eight operations, most of them accepted.
+fn take(records: usize) -> Vec<u8> {
+    let mut file = vec![1, 8];
+    for k in 0..records as u8 {
+        let (d, n) = (k / 8 % 8, u32::from(k));
+        let record = match k % 8 {
+            0 => Record::Get { d, n: 1 + n % 32 },
+            1 => Record::Fill { d: 8, a: d, v: k, n: 9 },
+            2 => Record::Step { d: 9, a: d, i: n % 20 },
+            3 => Record::Write { a: 9, w: 2, v: 257 * n },
+            4 => Record::Read { d: 10, a: d, w: 4 },
+            5 => Record::Left { d: 11, a: 9 },
+            6 => Record::Copy { d: 12, a: 0, b: d, n },
+            _ => Record::Give { a: d / 2 },
+        };
+        let mut bytes = [0; 9];
+        let count = takes::write(&mut bytes, record).expect("a good record");
+        file.extend_from_slice(&bytes[..count]);
+    }
+    file
+}
+
+/// What is wrong with a run, and the upload's number for it. The four of a record are faults of the last one.
+#[derive(Clone, Copy, Debug, PartialEq, Eq)]
+enum Fault {
+    None = 0,
+    LongFile = 3,
+    RecordLength = 4,
+    Operation = 5,
+    OperationLength = 6,
+    Register = 7,
+    Arena = 8,
+    ShortSlice = 9,
+}
+
+use Fault::*;
+
+const FAULTS: [Fault; 8] = [None, LongFile, RecordLength, Operation, OperationLength, Register, Arena, ShortSlice];
+
+fn file(records: usize, fault: Fault) -> Vec<u8> {
+    let last: &[u8] = match fault {
+        RecordLength => &[0],
+        Operation => &[2, 0, 0],
+        OperationLength => &[3, 2, 0, 0],
+        Register => &[2, 2, 16],
+        None | LongFile | Arena | ShortSlice => return long(take(records), fault),
+    };
+    [&take(records - 1), last].concat()
+}
+
+/// A long file goes on with gives up to the first byte past its limit.
+fn long(mut file: Vec<u8>, fault: Fault) -> Vec<u8> {
+    while fault == LongFile && file.len() <= LONGEST {
+        file.extend_from_slice(&[2, 2, 0]);
+    }
+    file
+}
+
+/// What a run returns and leaves.
+#[derive(Clone, Debug, PartialEq, Eq)]
+struct Outcome {
+    ran: Ran,
+    arena: Vec<u8>,
+    table: Vec<u8>,
+    answers: Vec<u8>,
+}
+
+/// What is lent, every byte 165, and what a refused run returns with it.
+fn refused(number: u32, records: usize, fault: Fault) -> Outcome {
+    let size = if fault == Arena { 2 * SIZE } else { SIZE };
+    let room = 5 * records - usize::from(fault == ShortSlice);
+    let ran = Ran { number, registers: [0; 16], count: 0 };
+    Outcome { ran, arena: vec![165; size], table: vec![165; SIZE / 16], answers: vec![165; room] }
+}
+
+fn outcome<S: Subject>(caller: Caller, records: usize, fault: Fault) -> Outcome {
+    let mut o = refused(0, records, fault);
+    o.ran = caller.run::<S>(&file(records, fault), &mut o.arena, &mut o.table, &mut o.answers);
+    o
+}
+
+fn compare<S: Subject>(records: usize, fault: Fault) {
+    let what = format!("{}, {records} records, {fault:?}", S::NAME);
+    let upload = outcome::<S>(Caller::Upload, records, fault);
+    if fault == None {
+        assert_eq!(upload, outcome::<Plain>(Caller::Upload, records, fault), "{what}");
+        assert_eq!((upload.ran.number, upload.ran.count), (0, records as u32), "{what}");
+        let accepted = upload.answers.chunks_exact(5).filter(|answer| answer[0] == 0).count();
+        assert!(2 * accepted > records, "{what}: {accepted} accepted records");
+    } else {
+        assert_eq!(upload, refused(fault as u32, records, fault), "{what}");
+    }
+    let crowded = records > 64 && matches!(fault, None | Arena | ShortSlice);
+    let expected = if crowded { refused(26, records, fault) } else { upload };
+    assert_eq!(outcome::<S>(Caller::Panel, records, fault), expected, "{what}");
+}
+
+fn side_by_side<S: Subject>() {
+    for records in [63, 64, 65, 70] {
+        FAULTS.iter().for_each(|&fault| compare::<S>(records, fault));
+    }
+}
+
+#[test]
+fn plain() {
+    side_by_side::<Plain>();
+}
+
+#[test]
+fn literal() {
+    side_by_side::<Literal>();
+}
+
+#[cfg(feature = "library")]
+#[test]
+fn library() {
+    side_by_side::<tulivombe_tests::library::Library>();
+}
