@@ -31,7 +31,7 @@ fn take(records: usize) -> Vec<u8> {
 /// What is wrong with a run, and the upload's number for it. The four of a record are faults of the last one.
 #[derive(Clone, Copy, Debug, PartialEq, Eq)]
 enum Fault {
-    None = 0,
+    Nothing = 0,
     LongFile = 3,
     RecordLength = 4,
     Operation = 5,
@@ -43,25 +43,19 @@ enum Fault {
 
 use Fault::*;
 
-const FAULTS: [Fault; 8] = [None, LongFile, RecordLength, Operation, OperationLength, Register, Arena, ShortSlice];
+const FAULTS: [Fault; 8] = [Nothing, LongFile, RecordLength, Operation, OperationLength, Register, Arena, ShortSlice];
 
+/// A long file goes on with gives beyond its limit.
 fn file(records: usize, fault: Fault) -> Vec<u8> {
     let last: &[u8] = match fault {
         RecordLength => &[0],
         Operation => &[2, 0, 0],
         OperationLength => &[3, 2, 0, 0],
         Register => &[2, 2, 16],
-        None | LongFile | Arena | ShortSlice => return long(take(records), fault),
+        LongFile => return [take(records), [2, 2, 0].repeat(LONGEST / 3)].concat(),
+        Nothing | Arena | ShortSlice => return take(records),
     };
     [&take(records - 1), last].concat()
-}
-
-/// A long file goes on with gives up to the first byte past its limit.
-fn long(mut file: Vec<u8>, fault: Fault) -> Vec<u8> {
-    while fault == LongFile && file.len() <= LONGEST {
-        file.extend_from_slice(&[2, 2, 0]);
-    }
-    file
 }
 
 /// What a run returns and leaves.
@@ -90,7 +84,7 @@ fn outcome<S: Subject>(caller: Caller, records: usize, fault: Fault) -> Outcome 
 fn compare<S: Subject>(records: usize, fault: Fault) {
     let what = format!("{}, {records} records, {fault:?}", S::NAME);
     let upload = outcome::<S>(Caller::Upload, records, fault);
-    if fault == None {
+    if fault == Nothing {
         assert_eq!(upload, outcome::<Plain>(Caller::Upload, records, fault), "{what}");
         assert_eq!((upload.ran.number, upload.ran.count), (0, records as u32), "{what}");
         let accepted = upload.answers.chunks_exact(5).filter(|answer| answer[0] == 0).count();
@@ -98,7 +92,7 @@ fn compare<S: Subject>(records: usize, fault: Fault) {
     } else {
         assert_eq!(upload, refused(fault as u32, records, fault), "{what}");
     }
-    let crowded = records > 64 && matches!(fault, None | Arena | ShortSlice);
+    let crowded = records > 64 && matches!(fault, Nothing | Arena | ShortSlice);
     let expected = if crowded { refused(26, records, fault) } else { upload };
     assert_eq!(outcome::<S>(Caller::Panel, records, fault), expected, "{what}");
 }

@@ -13,7 +13,7 @@ use Rattle.takes.specs.declared.Judgement.{Judgement}
 use Rattle.heap.specs.Views.{slotOrder}
 use Rattle.heap.specs.Heaps.{Heap, heapOf}
 use Rattle.runner.specs.Registers.{registersAtFirst}
-use Rattle.runner.specs.Runs.{RunOutcome, screenful, crowded, runRules, runSettled, runBy}
+use Rattle.runner.specs.Runs.{RunOutcome, screenful, crowded, runRules, runSettled, runBy, runOf}
 use Rattle.runner.specs.Carrying.{State, stateOf, atFirst, allRecords, Runnable, ranTo}
 use Rattle.runner.specs.declared.Ran.{Ran}
 use Rattle.runner.proofs.Files.{clear, unless, accepted-file, few}
@@ -118,19 +118,17 @@ module _ (panel : Bool) (file a t out : List ℕ) where
       rw (by-none (g .judged) b p q (g .room), n, k, g .same)
       (ap (λ (s : State). record { number = 0; registers = s .registers; count = length (recordsOf file); heap = s .heap; answers = s .answers }) e)
 
--- an accepted run had room for its answers
-pub ran-room : (panel : Bool) (file out : List ℕ) (h : Heap) (r : Ran) (a t out′ : List ℕ) → ranTo r a t out′ ≡ runBy panel file h out
-    → r .number ≡ 0 → 5 * r .count ≤ length out
+-- an accepted upload had room for its answers
+pub ran-room : (file out : List ℕ) (h : Heap) (r : Ran) (a t out′ : List ℕ) → ranTo r a t out′ ≡ runOf file h out → r .number ≡ 0 → 5 * r .count ≤ length out
 unfolding runBy
-ran-room panel file out h r a t out′ e z = go (first (runRules panel file h out)) refl e
+ran-room file out h r a t out′ e z = go (first (runRules false file h out)) refl e
   where
-    go : (k : ℕ) → first (runRules panel file h out) ≡ k → ranTo r a t out′ ≡ runSettled k file h out → 5 * r .count ≤ length out
+    go : (k : ℕ) → first (runRules false file h out) ≡ k → ranTo r a t out′ ≡ runSettled k file h out → 5 * r .count ≤ length out
     go zero k e =
         let short : Bool = ltb (length out) (5 * length (recordsOf file)) in
         let wrong : Bool = not (eqb (length (h .arena)) (2 ^ sizeByte file)) || not (eqb (length (h .table)) (2 ^ (sizeByte file - slotOrder))) in
-        let two = unless (fileNumber file) (cond (panel && crowded file) 26 (cond wrong 8 (cond short 9 0))) k in
-        let three = clear 26 (panel && crowded file) (cond wrong 8 (cond short 9 0)) (λ z. omega arith) (two .1) in
-        let four = clear 8 wrong (cond short 9 0) (λ z. omega arith) (three .1) in
-        let five = clear 9 short 0 (λ z. omega arith) (four .1) in
-        omega (arith, ltb-false (length out) (5 * length (recordsOf file)) (five .0), ap (λ (o : RunOutcome). o .count) e)
+        let two = unless (fileNumber file) (cond wrong 8 (cond short 9 0)) k in
+        let three = clear 8 wrong (cond short 9 0) (λ z. omega arith) (two .1) in
+        let four = clear 9 short 0 (λ z. omega arith) (three .1) in
+        omega (arith, ltb-false (length out) (5 * length (recordsOf file)) (four .0), ap (λ (o : RunOutcome). o .count) e)
     go (suc k) q e = absurd (omega (arith, ap (λ (o : RunOutcome). o .number) e))

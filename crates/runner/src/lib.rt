@@ -99,8 +99,8 @@ fn run_by(panel: bool, file: &[u8], arena: &mut [u8], table: &mut [u8], answers:
     if number != 0 {
         return refused(number);
     }
-    let count = judgement.count;
-    if panel && SCREENFUL < count {
+    let records = judgement.count;
+    if panel && SCREENFUL < records {
         return refused(26);
     }
     let m = judgement.size;
@@ -110,15 +110,15 @@ fn run_by(panel: bool, file: &[u8], arena: &mut [u8], table: &mut [u8], answers:
     if table.len() != blocks::size_of(m - 4) as usize {
         return refused(8);
     }
-    if answers.len() / 5 < count {
+    if answers.len() / 5 < records {
         return refused(9);
     }
     let registers = carry_out(file, arena, table, answers, m);
-    let counted = count as u32;
+    let count = records as u32;
     Ran {
         number: 0,
         registers,
-        count: counted,
+        count,
     }
 }
 

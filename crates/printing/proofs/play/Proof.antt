@@ -1,7 +1,6 @@
 -- The buffers are as long as they are said to be, and an accepted run had room for its answers.
 use Prim.Native.Nat.{_/_}
 use mathlib.Core.Path.{sym}
-use mathlib.Core.Bool.{false}
 use native.Mathlib.Omega.{arith}
 use lib.Seq.{length-take-le}
 use Rattle.runner.proofs.Judging.{ran-room}
@@ -62,7 +61,7 @@ slice-aggregate-print-answers c = search needs
 print-answers-requires : tie.Need-print-answers-requires
 print-answers-requires c κs =
     let r = c .before .before .before .before .before .before .before .run in
-    omega (arith, ran-room false _ _ _ (r .result) _ _ _ (r .ensures) (c .before .before .before .if1 .left), r .kept .1 .1 .1 .0)
+    omega (arith, ran-room _ _ _ (r .result) _ _ _ (r .ensures) (c .before .before .before .if1 .left), r .kept .1 .1 .1 .0)
 
 slice-aggregate-print-pair-3 : tie.Need-slice-aggregate-print-pair-3
 slice-aggregate-print-pair-3 c = search needs

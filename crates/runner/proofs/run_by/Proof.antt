@@ -205,8 +205,8 @@ module _ (c : tie.After-slice-known6) where
   abbrev past-all : tie.Else6
   past-all = done .before .before .before .before
 
-cast-counted : tie.Need-cast-counted
-cast-counted c =
+cast-count : tie.Need-cast-count
+cast-count c =
     let p = at-screen (past-all c) in
     omega (arith, count-short (file (lent p)) (found (lent p)) (good (past-file p)))
 
@@ -249,7 +249,7 @@ run-by-spec =
     refused-requires-5
     returns-5
     carry-out-requires
-    cast-counted
+    cast-count
     same-length
     same-length-2
     same-length-3
