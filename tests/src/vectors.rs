@@ -1,23 +1,62 @@
-//! The stored vectors: takes with what `takerun` prints, direct calls on one heap, and runs by either caller.
+//! The stored vectors: takes with what `takerun` prints, direct calls on one heap, and runs by either caller. A subject
+//! answers each as a text of the stored form; the tests compare it, and `restate` stores it.
 
 use crate::call::Call;
 use crate::plain::runner::printed;
-use crate::subject::{Answer, Caller, Ran, Subject};
+use crate::subject::{Answer, Caller, Subject};
 use std::fs;
 use std::path::{Path, PathBuf};
 
-/// All files of the base vectors with this extension, in order.
-pub fn base(extension: &str) -> Vec<PathBuf> {
-    let folder = Path::new(env!("CARGO_MANIFEST_DIR")).join("vectors/base");
-    let entries = fs::read_dir(&folder).unwrap_or_else(|e| panic!("{}: {e}", folder.display()));
-    let paths = entries.map(|entry| entry.expect("the folder can be listed").path());
-    let mut found: Vec<_> = paths.filter(|path| path.extension().is_some_and(|e| e == extension)).collect();
+/// What is stored, by the extension of its files: a take's printed lines, a list of calls, runs.
+pub const KINDS: [&str; 3] = ["out", "calls", "txt"];
+
+/// All stored files of a kind, in order.
+pub fn stored(kind: &str) -> Vec<PathBuf> {
+    let listed = |folder: &Path| -> Vec<PathBuf> {
+        let entries = fs::read_dir(folder).unwrap_or_else(|e| panic!("{}: {e}", folder.display()));
+        entries.map(|entry| entry.expect("the folder can be listed").path()).collect()
+    };
+    let folders = listed(&Path::new(env!("CARGO_MANIFEST_DIR")).join("vectors"));
+    let paths = folders.iter().filter(|path| path.is_dir()).flat_map(|folder| listed(folder));
+    let mut found: Vec<_> = paths.filter(|path| path.extension().is_some_and(|e| e == kind)).collect();
     found.sort();
     found
 }
 
+pub fn text(path: &Path) -> String {
+    fs::read_to_string(path).unwrap_or_else(|e| panic!("{}: {e}", path.display()))
+}
+
+/// The text that a stored file has by the subject: the printed lines of the take beside it, or its own calls or runs,
+/// answered.
+pub fn answered<S: Subject>(path: &Path) -> String {
+    match path.extension().and_then(|e| e.to_str()) {
+        Some("out") => takerun::<S>(&fs::read(path.with_extension("take")).expect("the take can be read")),
+        Some("calls") => {
+            let mut heap = Heap { arena: Vec::new(), table: Vec::new() };
+            text(path).lines().map(|line| heap.line::<S>(line) + "\n").collect()
+        }
+        Some("txt") => text(path).lines().map(|line| run::<S>(line) + "\n").collect(),
+        _ => panic!("no vector: {}", path.display()),
+    }
+}
+
+/// Holds the subject to all stored files of a kind, and counts their lines.
+pub fn hold<S: Subject>(kind: &str) -> usize {
+    let mut lines = 0;
+    for path in stored(kind) {
+        let (found, expected) = (answered::<S>(&path), text(&path));
+        for (index, (found, line)) in found.lines().zip(expected.lines()).enumerate() {
+            assert_eq!(found, line, "{}: {}:{}", S::NAME, path.display(), index + 1);
+        }
+        assert!(found == expected, "{}: {}: other lines at the end", S::NAME, path.display());
+        lines += expected.lines().count();
+    }
+    lines
+}
+
 /// What `takerun` prints, by the subject's run on buffers that fit.
-pub fn takerun<S: Subject>(file: &[u8]) -> String {
+fn takerun<S: Subject>(file: &[u8]) -> String {
     let m = file.get(1).copied().filter(|m| (5..=16).contains(m)).unwrap_or(5);
     let mut arena = vec![0xA5; 1 << m];
     let mut table = vec![0xA5; arena.len() / 16];
@@ -29,61 +68,23 @@ pub fn takerun<S: Subject>(file: &[u8]) -> String {
     printed(arena.len(), &answers[..5 * ran.count as usize])
 }
 
-/// Runs each take and compares what is printed.
-pub fn takes<S: Subject>() -> usize {
-    let paths = base("take");
-    for path in &paths {
-        let file = fs::read(path).expect("the take can be read");
-        let expected = fs::read_to_string(path.with_extension("out")).expect("the output can be read");
-        assert_eq!(takerun::<S>(&file), expected, "{}: {}", S::NAME, path.display());
-    }
-    paths.len()
-}
-
-/// Makes the calls of each file and compares answers, shown bytes and the buffers at the end.
-pub fn calls<S: Subject>() -> usize {
-    let paths = base("calls");
-    for path in &paths {
-        let text = fs::read_to_string(path).expect("the calls can be read");
-        let mut heap = Heap { arena: Vec::new(), table: Vec::new() };
-        for (index, line) in text.lines().enumerate() {
-            if let Err(found) = heap.line::<S>(line) {
-                panic!("{}: {}:{}: {line}: found {found}", S::NAME, path.display(), index + 1);
-            }
-        }
-    }
-    paths.len()
-}
-
-/// Makes each run of `01/runs.txt` and compares what it returns and leaves.
-pub fn runs<S: Subject>() -> usize {
-    let path = Path::new(env!("CARGO_MANIFEST_DIR")).join("vectors/01/runs.txt");
-    let text = fs::read_to_string(&path).unwrap_or_else(|e| panic!("{}: {e}", path.display()));
-    for (index, line) in text.lines().enumerate() {
-        if let Err(found) = run::<S>(line) {
-            panic!("{}: {}:{}: found {found}", S::NAME, path.display(), index + 1);
-        }
-    }
-    text.lines().count()
-}
-
-/// One line: the caller, the file, what is lent; then what is returned, and the three slices as they are left.
-fn run<S: Subject>(line: &str) -> Result<(), String> {
-    let words: Vec<&str> = line.split_whitespace().collect();
-    let number = |k: usize| -> u32 { words[k].parse().expect("a number") };
-    let names = [words[2], words[4], words[6], words[8], words[10]];
-    assert_eq!(names, ["fill", "arena", "table", "answers", "="], "{line}");
+/// One run: the caller, the file and what is lent; then what is returned, and the three slices as they are left.
+fn run<S: Subject>(line: &str) -> String {
+    let question = line.split(" = ").next().expect("a text has a first part");
+    let words: Vec<&str> = question.split(' ').collect();
+    let number = |k: usize| -> usize { words[k].parse().expect("a number") };
+    assert_eq!([words[2], words[4], words[6], words[8]], ["fill", "arena", "table", "answers"], "{line}");
     let caller = match words[0] {
         "run" => Caller::Upload,
         "panel" => Caller::Panel,
         other => panic!("no such run: {other}"),
     };
-    let lent = |k: usize| vec![number(3) as u8; number(k) as usize];
+    let lent = |k: usize| vec![number(3) as u8; number(k)];
     let (mut arena, mut table, mut answers) = (lent(5), lent(7), lent(9));
     let ran = caller.run::<S>(&bytes(words[1]), &mut arena, &mut table, &mut answers);
-    let registers = std::array::from_fn(|register| number(13 + register));
-    same(ran, Ran { number: number(11), count: number(12), registers })?;
-    same([answers, arena, table], [bytes(words[29]), bytes(words[30]), bytes(words[31])])
+    let registers = ran.registers.map(|register| register.to_string()).join(" ");
+    let slices = [answers, arena, table].map(|slice| hexadecimal(&slice)).join(" ");
+    format!("{question} = {} {} {registers} {slices}", ran.number, ran.count)
 }
 
 struct Heap {
@@ -92,9 +93,10 @@ struct Heap {
 }
 
 impl Heap {
-    /// One line; where something differs, what was found.
-    fn line<S: Subject>(&mut self, line: &str) -> Result<(), String> {
-        let words: Vec<&str> = line.split_whitespace().collect();
+    /// One line, with what the subject answers.
+    fn line<S: Subject>(&mut self, line: &str) -> String {
+        let question = line.split(" = ").next().expect("a text has a first part");
+        let words: Vec<&str> = question.split(' ').collect();
         let number = |k: usize| -> u32 { words[k].parse().expect("a number") };
         match words[0] {
             "heap" => {
@@ -102,26 +104,25 @@ impl Heap {
                 self.arena = vec![0xA5; 1 << number(1)];
                 self.table = vec![0xA5; self.arena.len() / 16];
                 let answer = S::fresh(&mut self.arena, &mut self.table);
-                same(answer, Answer { number: 0, value: 0 })
+                assert_eq!(answer, Answer { number: 0, value: 0 }, "{line}");
+                line.to_string()
             }
             "poke" => {
                 self.table[number(1) as usize] = number(2) as u8;
-                Ok(())
+                line.to_string()
             }
-            "arena" => same(hexadecimal(&self.arena), words[1].to_string()),
-            "table" => same(hexadecimal(&self.table), words[1].to_string()),
+            "arena" => format!("arena {}", hexadecimal(&self.arena)),
+            "table" => format!("table {}", hexadecimal(&self.table)),
             "show" => {
                 let part = S::show(&self.arena, &self.table, number(1));
                 let from = part.offset as usize;
                 let shown = hexadecimal(&self.arena[from..from + part.length as usize]);
-                let shown = if shown.is_empty() { "-".to_string() } else { shown };
-                same((part.number, shown), (number(3), words[4].to_string()))
+                format!("{question} = {} {shown}", part.number)
             }
             _ => {
-                let equals = words.iter().position(|&word| word == "=").expect("a call with its answer");
-                let arguments: Vec<u32> = (1..equals).map(number).collect();
+                let arguments: Vec<u32> = (1..words.len()).map(number).collect();
                 let answer = self.call::<S>(words[0], &arguments);
-                same(answer, Answer { number: number(equals + 1), value: number(equals + 2) })
+                format!("{question} = {} {}", answer.number, answer.value)
             }
         }
     }
@@ -145,14 +146,6 @@ impl Heap {
     }
 }
 
-fn same<T: PartialEq + std::fmt::Debug>(found: T, expected: T) -> Result<(), String> {
-    if found == expected {
-        Ok(())
-    } else {
-        Err(format!("{found:?}"))
-    }
-}
-
 /// The bytes of a hexadecimal word, `-` for none.
 fn bytes(word: &str) -> Vec<u8> {
     let digits = if word == "-" { "" } else { word };
@@ -161,5 +154,8 @@ fn bytes(word: &str) -> Vec<u8> {
 }
 
 fn hexadecimal(bytes: &[u8]) -> String {
+    if bytes.is_empty() {
+        return "-".to_string();
+    }
     bytes.iter().map(|byte| format!("{byte:02x}")).collect()
 }

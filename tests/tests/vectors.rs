@@ -1,14 +1,12 @@
-//! The stored vectors of document 01, and of request 1 of document 02.
+//! The stored vectors of document 01, and of the landed requests of document 02.
 
 use tulivombe_tests::literal::Literal;
 use tulivombe_tests::plain::runner;
 use tulivombe_tests::subject::{Plain, Subject};
-use tulivombe_tests::vectors;
+use tulivombe_tests::vectors::{hold, stored, text, KINDS};
 
 fn all<S: Subject>() {
-    assert_eq!(vectors::takes::<S>(), 48);
-    assert_eq!(vectors::calls::<S>(), 48);
-    assert_eq!(vectors::runs::<S>(), 74);
+    assert_eq!(KINDS.map(hold::<S>), [7734, 5011, 74]);
 }
 
 #[test]
@@ -23,10 +21,10 @@ fn literal() {
 
 #[test]
 fn plain_takerun() {
-    for path in vectors::base("take") {
-        let file = std::fs::read(&path).expect("the take can be read");
-        let expected = std::fs::read_to_string(path.with_extension("out")).expect("the output can be read");
-        assert_eq!(runner::takerun(&file), expected, "{}", path.display());
+    assert_eq!(stored("take").len(), stored("out").len());
+    for path in stored("out") {
+        let file = std::fs::read(path.with_extension("take")).expect("the take can be read");
+        assert_eq!(runner::takerun(&file), text(&path), "{}", path.display());
     }
 }
 
