@@ -38,6 +38,9 @@ is x n v = eqb (x .number) n && eqb (x .value) v
 
 -- every line is as it should be
 holdAt : List Line → Heap → Bool
+unfolding bigEndian bytesOf over copied floor any torn bad damagedBy referentIn sought signed checkBits within inReach orderOf neededOrder allFree rangeStart
+    freeRange maximal lowest atOrder fromOrder placeIn argumentRules stateRules rules value stored insideByCheck entered heapStep heapCall heapFresh heapCheck
+    shown same is
 holdAt [] h = true
 holdAt (answers c n v ∷ ls) h = is (heapCall c h .answer) n v && holdAt ls (heapCall c h .state)
 holdAt (freshens n ∷ ls) h = is (heapFresh h .answer) n 0 && holdAt ls (heapFresh h .state)
@@ -93,10 +96,10 @@ calls-047 =
     ∷ tableIs (4 ∷ 4 ∷ 5 ∷ 5 ∷ []) ∷ []
 
 holds-047 : holdAt calls-047 (freshHeap 6) ≡ true
-unfolding bigEndian bytesOf over copied floor any torn bad damagedBy referentIn sought signed checkBits within inReach orderOf neededOrder allFree rangeStart freeRange maximal lowest atOrder fromOrder placeIn argumentRules stateRules rules value stored insideByCheck entered heapStep heapCall heapFresh heapCheck shown same is holdAt calls-047
+unfolding holdAt calls-047
 holds-047 = refl
 
 -- lengths that are no heap's: 48 bytes, and a table of one entry too many
 wrong-lengths : (holdAt (answers (Get 1) 8 0 ∷ freshens 8 ∷ checks 65536 0 8 0 ∷ shows 65536 8 [] ∷ []) (heapOf (replicate 48 7) (replicate 3 0)) ≡ true) × (holdAt (answers (Left 65536) 8 0 ∷ freshens 8 ∷ []) (heapOf (replicate 32 7) (replicate 3 0)) ≡ true)
-unfolding bigEndian bytesOf over copied floor any torn bad damagedBy referentIn sought signed checkBits within inReach orderOf neededOrder allFree rangeStart freeRange maximal lowest atOrder fromOrder placeIn argumentRules stateRules rules value stored insideByCheck entered heapStep heapCall heapFresh heapCheck shown same is holdAt
+unfolding holdAt
 wrong-lengths = (refl, refl)
