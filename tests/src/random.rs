@@ -180,12 +180,14 @@ pub fn amount(rng: &mut Rng, m: u32) -> u32 {
 
 /// A signed step, in two's complement.
 pub fn distance(rng: &mut Rng, m: u32) -> u32 {
-    let small = match rng.below(8) {
+    let small = match rng.below(10) {
         0 => return rng.word(),
         1 => return rng.pick(&[0, 1 << 31, (1 << 31) - 1, u32::MAX, BASE, BASE.wrapping_neg()]),
         2 => 1 << rng.within(0, m),
         3 => rng.below(1 << m),
         4 => (1 << rng.within(4, m)) + rng.within(0, 9),
+        // from a block's start to its last bytes, where a read or write of 2 or 4 bytes goes past the end
+        5 | 6 => return (1 << rng.within(4, m.min(6))) - rng.within(1, 3),
         _ => rng.below(25),
     };
     if rng.once_in(2) {
