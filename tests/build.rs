@@ -14,6 +14,11 @@ fn main() {
     }
 }
 
+/// This folder, asked for when the script runs: a copy of the repository may come with the script compiled elsewhere.
+fn tests() -> PathBuf {
+    PathBuf::from(std::env::var_os("CARGO_MANIFEST_DIR").expect("cargo gives a build script its package"))
+}
+
 /// Runs a command that must succeed.
 fn run(command: &mut Command, what: &str) {
     let name = command.get_program().to_string_lossy().into_owned();
@@ -25,7 +30,7 @@ fn run(command: &mut Command, what: &str) {
 }
 
 fn plain_c(out: &Path) {
-    let source = Path::new(env!("CARGO_MANIFEST_DIR")).join("c/plain.c");
+    let source = tests().join("c/plain.c");
     println!("cargo:rerun-if-changed={}", source.display());
     let object = out.join("plain.o");
     let mut compiler = Command::new("gcc");
@@ -38,7 +43,8 @@ fn plain_c(out: &Path) {
 }
 
 fn library(out: &Path) {
-    let root = Path::new(env!("CARGO_MANIFEST_DIR")).parent().expect("tests/ stands in the repository");
+    let tests = tests();
+    let root = tests.parent().expect("tests/ stands in the repository");
     for path in ["crates", "crates.txt"] {
         println!("cargo:rerun-if-changed={}", root.join(path).display());
     }
