@@ -97,11 +97,12 @@ typedef struct {
 /* Makes the heap fresh: arena and table all zero. Refused: 8. Value: 0. */
 tulivombe_answer tulivombe_fresh(uint8_t *arena, size_t arena_len, uint8_t *table, size_t table_len);
 
-/* Gets a block of the smallest power of two, from 16 up, that holds n bytes. The bytes of the block past
- * the first n become 0; the first n keep what they held. Refused: 8, 10, 20, 21. Value: the block's start. */
+/* Gets a block of the smallest power of two, from 16 up, that holds n bytes. All bytes of the block become 0,
+ * whatever they held, and no other byte of the arena changes. Refused: 8, 10, 20, 21. Value: the block's start. */
 tulivombe_answer tulivombe_get(uint8_t *arena, size_t arena_len, uint8_t *table, size_t table_len, uint32_t n);
 
-/* Gives the block that starts at p back. Refused: 8, 13, 20, 22, 23. Value: 0. */
+/* Gives the block that starts at p back. Its bytes stay as they are until a get makes a block of them or
+ * tulivombe_fresh clears all. Refused: 8, 13, 20, 22, 23. Value: 0. */
 tulivombe_answer tulivombe_give(const uint8_t *arena, size_t arena_len, uint8_t *table, size_t table_len,
                                 uint32_t p);
 

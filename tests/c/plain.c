@@ -1,4 +1,4 @@
-/* Four calls of document 01 on lent buffers, in plain C: what a device's makers would write by hand. */
+/* Four calls of document 01, with the landed requests of document 02, in plain C: what a device's makers would write by hand. */
 
 #include <stdbool.h>
 #include <stddef.h>
@@ -157,7 +157,7 @@ plain_answer plain_get(uint8_t *arena, size_t arena_len, uint8_t *table, size_t 
         return refused(NO_FREE_RANGE);
     size_t start = slot * SLOT;
     memset(table + slot, (int)order, slots_of(order));
-    memset(arena + start + n, 0, ((size_t)1 << order) - n);
+    memset(arena + start, 0, (size_t)1 << order);
     return accepted(BASE + (uint32_t)start);
 }
 

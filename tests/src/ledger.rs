@@ -1,5 +1,5 @@
-//! The ledger of document 01, and the definitions on tables that it does without. Slow and literal: what
-//! `plain` computes in one pass is written here as the paper says it.
+//! The ledger of document 01, with the landed requests of document 02, and the definitions on tables that it does
+//! without. Slow and literal: what `plain` computes in one pass is written here as the papers say it.
 
 use crate::call::Call;
 use crate::subject::Answer;
@@ -162,7 +162,7 @@ impl Ledger {
                 let order = order_needed(n);
                 let start = self.placing(order).expect("not refused 21");
                 let pair = Pair { start, order };
-                for address in start + i64::from(n)..=pair.end() {
+                for address in start..=pair.end() {
                     *self.byte(address) = 0;
                 }
                 self.pairs.push(pair);

@@ -74,14 +74,14 @@ module _ (m n : ℕ) (a t : List ℕ) (z : Ready m (Get n) a t) (e : ℕ) (q : e
     placed : placeFor m n v ≡ At s k
     placed = ap (placeIn (freeIn t) 4 0 m) (sym q) ∙ h
 
-    pub get-done : (x : ℕ) (a′ t′ : List ℕ) → x ≡ 65536 + s * 16 → a′ ≡ over a (s * 16 + n) (replicate (2 ^ e - n) 0) → t′ ≡ over t s (replicate (2 ^ (e - 4)) (e % 256))
-        → outcome (answer 0 x) a′ t′ ≡ heapStep m (Get n) (heapOf a t)
+    pub get-done : (x : ℕ) (a′ t′ : List ℕ) → x ≡ 65536 + s * 16 → a′ ≡ over a (s * 16) (replicate (2 ^ e) 0)
+        → t′ ≡ over t s (replicate (2 ^ (e - 4)) (e % 256)) → outcome (answer 0 x) a′ t′ ≡ heapStep m (Get n) (heapOf a t)
     unfolding stateRules value stored entered
     get-done x a′ t′ xe ae te =
         let d : base + s * 16 - base ≡ s * 16 = omega arith in
         let f : (base + s * 16 - base) / 16 ≡ s = omega arith in
         let o : e % 256 ≡ e = omega (arith, needed .high, z .sound .high) in
-        let am : a′ ≡ cleared a (placeAddress (placeFor m n v) - base) (neededOrder 4 m n) n = ae ∙ rw (placed, d, ← q) in
+        let am : a′ ≡ cleared a (placeAddress (placeFor m n v) - base) (neededOrder 4 m n) = ae ∙ rw (placed, d, ← q) in
         let tm : t′ ≡ stamped t (placeAddress (placeFor m n v)) (neededOrder 4 m n) (neededOrder 4 m n) = te ∙ rw (placed, f, o, ← q) in
         let xm : x ≡ placeAddress (placeFor m n v) = xe ∙ sym (ap placeAddress placed) in
         rw (xm, am, tm) (step-accepted m (Get n) a t z (ap (λ (y : Place). first (21 when noPlace y ∷ [])) placed))

@@ -1,4 +1,5 @@
--- Document 01, "The eight calls": the value of a call that is not refused, and the bytes that it leaves. Both are said over a view, for the heap and the ledger alike.
+-- Document 01, "The eight calls", with request 2 of document 02: the value of a call that is not refused, and the bytes that it leaves.
+-- Both are said over a view, for the heap and the ledger alike.
 use Prim.Native.Nat.{ℕ, zero, suc, _+_, _-_, _^_, min}
 use mathlib.Core.Bool.{cond}
 use mathlib.Core.List.{List}
@@ -25,9 +26,9 @@ copyCount w p q n = min n (min (leftFrom w p) (leftFrom w q))
 abbrev pub fillCount : View → ℕ → ℕ → ℕ
 fillCount w p n = min n (leftFrom w p)
 
--- the bytes of the block of 2 ^ e at `at`, from n on, cleared
-abbrev pub cleared : List ℕ → ℕ → ℕ → ℕ → List ℕ
-cleared b at e n = over b (at + n) (replicate (2 ^ e - n) 0)
+-- b with the 2 ^ e bytes of the block at `at` cleared
+abbrev pub cleared : List ℕ → ℕ → ℕ → List ℕ
+cleared b at e = over b at (replicate (2 ^ e) 0)
 
 unfoldable pub value : ℕ → Call → View → List ℕ → ℕ
 value m (Get n) w b = placeAddress (placeFor m n w)
@@ -40,7 +41,7 @@ value m (Copy p q n) w b = copyCount w p q n
 value m (Fill p v n) w b = fillCount w p n
 
 unfoldable pub stored : ℕ → Call → View → List ℕ → List ℕ
-stored m (Get n) w b = cleared b (placeAddress (placeFor m n w) - base) (neededOrder slotOrder m n) n
+stored m (Get n) w b = cleared b (placeAddress (placeFor m n w) - base) (neededOrder slotOrder m n)
 stored m (Give p) w b = b
 stored m (Step p i) w b = b
 stored m (Read p k) w b = b

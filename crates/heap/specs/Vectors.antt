@@ -1,8 +1,8 @@
--- Outside vectors on the definitions: direct calls, pokes into the table between them, and both buffers at the end.
+-- Outside vectors on the definitions: direct calls, pokes into the table between them, and both buffers at the end. Then lists of our own.
 use Prim.Native.Nat.{ℕ}
 use mathlib.Core.Path.{_≡_, refl}
 use mathlib.Core.Bool.{Bool, true, false, _&&_}
-use mathlib.Core.List.{List, [], _∷_}
+use mathlib.Core.List.{List, [], _∷_, _++_}
 use lib.Dec.{eqb}
 use lib.ListN.{set, replicate}
 use Rattle.common.specs.Bytes.{bigEndian, bytesOf, over, copied}
@@ -98,6 +98,14 @@ calls-047 =
 holds-047 : holdAt calls-047 (freshHeap 6) ≡ true
 unfolding holdAt calls-047
 holds-047 = refl
+
+-- Request 2: all 64 bytes are filled and given back, then a block of 32 and one of 16 are cut from them. Both are clean, and the rest keeps its bytes.
+clean-blocks : holdAt
+    (answers (Get 50) 0 65536 ∷ answers (Fill 65536 170 64) 0 64 ∷ answers (Give 65536) 0 0 ∷ arenaIs (replicate 64 170) ∷ answers (Get 20) 0 65536
+    ∷ arenaIs (replicate 32 0 ++ replicate 32 170) ∷ answers (Get 16) 0 65568 ∷ answers (Read 65568 4) 0 0 ∷ arenaIs (replicate 48 0 ++ replicate 16 170) ∷ [])
+    (freshHeap 6) ≡ true
+unfolding holdAt
+clean-blocks = refl
 
 -- lengths that are no heap's: 48 bytes, and a table of one entry too many
 wrong-lengths : (holdAt (answers (Get 1) 8 0 ∷ freshens 8 ∷ checks 65536 0 8 0 ∷ shows 65536 8 [] ∷ []) (heapOf (replicate 48 7) (replicate 3 0)) ≡ true) × (holdAt (answers (Left 65536) 8 0 ∷ freshens 8 ∷ []) (heapOf (replicate 32 7) (replicate 3 0)) ≡ true)

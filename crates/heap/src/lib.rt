@@ -41,7 +41,7 @@ pub fn fresh(arena: &mut [u8], table: &mut [u8]) -> Answer
     answers::accepted(0)
 }
 
-// The start of a new block of at least n bytes.
+// The start of a new block of at least n bytes, the whole of it 0.
 pub fn get(arena: &mut [u8], table: &mut [u8], n: u32) -> Answer
     ensures { λ r. ⌜ outcome r (now (arena .exit)) (now (table .exit)) ≡ heapCall (Call.Get n) (heapOf (now (arena .entry)) (now (table .entry))) ⌝ }
 {

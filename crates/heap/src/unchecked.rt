@@ -43,8 +43,7 @@ pub fn get(arena: &mut [u8], table: &mut [u8], m: u32, n: u32) -> Answer
         Place::Nothing => refused(21),
         Place::At { slot, order: _ } => {
             common::fill(table, slot, blocks::slots_of(e), (e % 256) as u8);
-            let rest = blocks::size_of(e) - n;
-            common::fill(arena, slot * 16 + n as usize, rest as usize, 0);
+            common::fill(arena, slot * 16, blocks::size_of(e) as usize, 0);
             accepted(65536 + (slot * 16) as u32)
         }
     }

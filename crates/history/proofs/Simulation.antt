@@ -211,21 +211,24 @@ module _ (m : ℕ) (big : slotOrder ≤ m) (h : Heap) (l : Ledger) (g : Agree m 
 
   get-agree : (n : ℕ) → n ≤ 2 ^ m → (x : Place) → placeFor m n (ledgerView l) ≡ x → noPlace x ≡ false
       → Agree m
-      (heapOf (cleared (h .arena) (placeAddress x - base) (neededOrder slotOrder m n) n) (stamped (h .table) (placeAddress x) (neededOrder slotOrder m n) (neededOrder slotOrder m n)))
-      (record { pairs = bs ++ (block (placeAddress x) (neededOrder slotOrder m n) ∷ []); bytes = cleared (l .bytes) (placeAddress x - base) (neededOrder slotOrder m n) n })
+      (heapOf (cleared (h .arena) (placeAddress x - base) (neededOrder slotOrder m n))
+      (stamped (h .table) (placeAddress x) (neededOrder slotOrder m n) (neededOrder slotOrder m n)))
+      (record {
+        pairs = bs ++ (block (placeAddress x) (neededOrder slotOrder m n) ∷ []);
+        bytes = cleared (l .bytes) (placeAddress x - base) (neededOrder slotOrder m n);
+      })
   get-agree n top Nothing q y = absurd (false≢true (sym y))
   get-agree n top (At s k) q y =
       let e : ℕ = neededOrder slotOrder m n in
       let need : Needed slotOrder m n e = needed-order slotOrder m n big top in
-      let enough : n ≤ 2 ^ e = need .enough in
       let w = place-sound (unheld slotOrder bs) slotOrder 0 m e s k (omega (arith, need .high)) q in
       let c : Block = block (base + s * 2 ^ slotOrder) e in
       let z : Placed slotOrder m bs c = placed slotOrder m e bs (g .proper) (need .low) s k w in
       let longer : Proper slotOrder m (bs ++ (c ∷ [])) = added-proper c (g .proper) (z .aligned) (z .free) in
       let ins : base + s * 2 ^ slotOrder + 2 ^ e ≤ base + 2 ^ m = z .aligned .inside in
-      let zeros : List ℕ = replicate (2 ^ e - n) 0 in
-      let at : ℕ = placeAddress (At s k) - base + n in
-      let many : length zeros ≡ 2 ^ e - n = length-replicate (2 ^ e - n) 0 in
+      let zeros : List ℕ = replicate (2 ^ e) 0 in
+      let at : ℕ = placeAddress (At s k) - base in
+      let many : length zeros ≡ 2 ^ e = length-replicate (2 ^ e) 0 in
       let fit : at + length zeros ≤ length (l .bytes) = omega (arith, arena-size) in
       let r = over-agree at zeros fit in
       record {

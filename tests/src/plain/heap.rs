@@ -163,7 +163,7 @@ pub fn get<const KNOWN: bool>(arena: &mut [u8], table: &mut [u8], n: u32) -> Out
     let slot = search(table, order).ok_or(NoFreeRange)?;
     table[slot..slot + (1 << (order - SLOT_ORDER))].fill(order as u8);
     let start = slot * SLOT;
-    arena[start + n..start + (1 << order)].fill(0);
+    arena[start..start + (1 << order)].fill(0);
     Ok(BASE + start as u32)
 }
 

@@ -1,4 +1,5 @@
--- `unchecked::get` meets its contract.
+-- A place is a free range of at least the order that is needed, so the block's entries and its cleared bytes lie in the table and the arena. With no
+-- place the call is refused.
 use Prim.Native.Nat.{ℕ, _+_, _-_, _*_, _%_, _^_, _≤_}
 use mathlib.Core.Path.{_≡_, refl, sym, _∙_, ap}
 use native.Mathlib.Omega.{arith}
@@ -45,13 +46,36 @@ module _ (c : tie.After-slot) where
 
   slots-fit : at + 2 ^ (order from - 4) ≤ length (start .args .table .now)
   slots-fit =
-      get-slots (start .args .m) (start .args .n) (start .args .arena .now) (start .args .table .now) (start .pre) (order from) (from .needed-order .ensures) at (c .slot .given .0 .1 .0) found
+      get-slots (start .args .m) (start .args .n) (start .args .arena .now) (start .args .table .now) (start .pre) (order from) (from .needed-order .ensures)
+      at (c .slot .given .0 .1 .0) found
 
   bytes-fit : (at * 16 + 2 ^ order from ≤ length (start .args .arena .now)) × (length (start .args .arena .now) ≤ 65536)
   bytes-fit = (
-    get-bytes (start .args .m) (start .args .n) (start .args .arena .now) (start .args .table .now) (start .pre) (order from) (from .needed-order .ensures) at (c .slot .given .0 .1 .0) found,
-    get-small (start .args .m) (start .args .n) (start .args .arena .now) (start .args .table .now) (start .pre) (order from) (from .needed-order .ensures) at (c .slot .given .0 .1 .0) found,
+    get-bytes (start .args .m) (start .args .n) (start .args .arena .now) (start .args .table .now) (start .pre) (order from) (from .needed-order .ensures)
+        at (c .slot .given .0 .1 .0) found,
+    get-small (start .args .m) (start .args .n) (start .args .arena .now) (start .args .table .now) (start .pre) (order from) (from .needed-order .ensures)
+        at (c .slot .given .0 .1 .0) found,
   )
+
+-- once the table has the block's entries
+module _ (c : tie.After-fill) where
+  abbrev place : tie.After-slot
+  place = c .before .before .before .before
+
+  entries : c .fill .last .0 ≡ over (start place .args .table .now) (at place) (replicate (2 ^ (order (from place) - 4)) (order (from place) % 256))
+  entries =
+      c .fill .ensures
+      ∙ ap (λ (z : ℕ). over (start place .args .table .now) (at place) (replicate z (order (from place) % 256))) (c .before .slots-of .ensures)
+
+-- and once the block is cleared
+module _ (c : tie.After-fill2) where
+  abbrev filled : tie.After-fill
+  filled = c .before .before .before .before .before
+
+  zeros : c .fill2 .last .0 ≡ over (start (place filled) .args .arena .now) (at (place filled) * 16) (replicate (2 ^ order (from (place filled))) 0)
+  zeros =
+      c .fill2 .ensures
+      ∙ ap (λ (z : ℕ). over (start (place filled) .args .arena .now) (at (place filled) * 16) (replicate z 0)) (c .before .size-of .ensures)
 
 needed-order-requires : tie.Need-needed-order-requires
 needed-order-requires c κs = let s = c .before .before .pre .sound in (omega (arith, s .low), s .high)
@@ -80,32 +104,26 @@ cast-fill c = record { fits = omega arith }
 fill-requires : tie.Need-fill-requires
 fill-requires c κs = omega (arith, slots-fit (c .before .before .before), c .slots-of .ensures)
 
-size-of-requires : tie.Need-size-of-requires
-size-of-requires c κs = order-top (c .before .before .before .before .before .before .before .before .before .before)
-
-sub-rest : tie.Need-sub-rest
-sub-rest c = omega (arith, order-needed (c .before .before .before .before .before .before .before .before .before .before .before) .enough, c .size-of .ensures)
-
 mul-fill : tie.Need-mul-fill
-mul-fill c = record { fits = omega (arith, bytes-fit (c .before .before .before .before .before .before .before .before)) }
+mul-fill c = record { fits = omega (arith, bytes-fit (place (c .before .before .before))) }
 
-add-fill : tie.Need-add-fill
-add-fill c = record { fits = omega (arith, bytes-fit (c .before .before .before .before .before .before .before .before), order-needed (c .before .before .before .before .before .before .before .before .before .before .before .before) .enough) }
+size-of-requires : tie.Need-size-of-requires
+size-of-requires c κs = order-top (from (place (c .before .before .before)))
 
 cast-fill-2 : tie.Need-cast-fill-2
 cast-fill-2 c = search needs
 
 fill-requires-2 : tie.Need-fill-requires-2
-fill-requires-2 c κs = omega (arith, bytes-fit (c .before .before .before .before .before .before .before .before) .0, c .before .size-of .ensures, order-needed (c .before .before .before .before .before .before .before .before .before .before .before .before) .enough)
+fill-requires-2 c κs = omega (arith, bytes-fit (place (c .before .before .before .before)) .0, c .size-of .ensures)
 
 mul-accepted : tie.Need-mul-accepted
-mul-accepted c = record { fits = omega (arith, bytes-fit (c .before .before .before .before .before .before .before .before .before .before .before)) }
+mul-accepted c = record { fits = omega (arith, bytes-fit (place (filled (c .before .before)))) }
 
 cast-accepted : tie.Need-cast-accepted
-cast-accepted c = record { fits = omega (arith, bytes-fit (c .before .before .before .before .before .before .before .before .before .before .before)) }
+cast-accepted c = record { fits = omega (arith, bytes-fit (place (filled (c .before .before)))) }
 
 add-accepted : tie.Need-add-accepted
-add-accepted c = record { fits = omega (arith, bytes-fit (c .before .before .before .before .before .before .before .before .before .before .before)) }
+add-accepted c = record { fits = omega (arith, bytes-fit (place (filled (c .before .before)))) }
 
 accepted-requires : tie.Need-accepted-requires
 accepted-requires c κs = search needs
@@ -118,7 +136,8 @@ returns c =
     let k = c .before .before .before .before .before in
     let a = entry k .args in
     ap (λ (x : Answer). outcome x (a .arena .now) (a .table .now)) (c .refused .ensures)
-    ∙ get-none (a .m) (a .n) (a .arena .now) (a .table .now) (entry k .pre) (order k) (k .needed-order .ensures) (sym (c .before .before .before .find-place .ensures) ∙ c .before .enum-told .given .1)
+    ∙ get-none (a .m) (a .n) (a .arena .now) (a .table .now) (entry k .pre) (order k) (k .needed-order .ensures)
+    (sym (c .before .before .before .find-place .ensures) ∙ c .before .enum-told .given .1)
 
 same-length-2 : tie.Need-same-length-2
 same-length-2 c = search needs
@@ -128,13 +147,17 @@ same-length-3 c = search needs
 
 returns-2 : tie.Need-returns-2
 returns-2 c =
-    let k = c .before .before .before .before .before .before .before .before .before .before .before .before in
+    let x = c .before .before .before in
+    let y = filled x in
+    let k = place y in
     let a = start k .args in
-    let x = c .before .before .before .fill2 in
-    let y = c .before .before .before .before .before .before .before .before .fill in
-    ap (λ (r : Answer). outcome r (x .last .0) (y .last .0)) (c .accepted .ensures)
-    ∙ get-done (a .m) (a .n) (a .arena .now) (a .table .now) (start k .pre) (order (from k)) (from k .needed-order .ensures) (at k) (k .slot .given .0 .1 .0) (found k) (65536 + at k * 16)
-    (x .last .0) (y .last .0) refl (x .ensures ∙ ap (λ (z : ℕ). over (a .arena .now) (at k * 16 + a .n) (replicate (z - a .n) 0)) (c .before .before .before .before .before .size-of .ensures)) (y .ensures ∙ ap (λ (z : ℕ). over (a .table .now) (at k) (replicate z (order (from k) % 256))) (c .before .before .before .before .before .before .before .before .before .slots-of .ensures))
+    ap (λ (r : Answer). outcome r (x .fill2 .last .0) (y .fill .last .0)) (c .accepted .ensures)
+    ∙ get-done (a .m) (a .n) (a .arena .now) (a .table .now) (start k .pre) (order (from k)) (from k .needed-order .ensures) (at k) (k .slot .given .0 .1 .0)
+    (found k) (65536 + at k * 16) (x .fill2 .last .0) (y .fill .last .0) refl (zeros x) (entries y)
 
 pub get-spec : {M : Type 1} → statement M
-get-spec = tie.close (tie.spec needed-order-requires find-place-requires enum-told refused-requires enum-known-slot slots-of-requires cast-fill fill-requires size-of-requires sub-rest mul-fill add-fill cast-fill-2 fill-requires-2 mul-accepted cast-accepted add-accepted accepted-requires same-length returns same-length-2 same-length-3 returns-2)
+get-spec =
+    tie.close
+    (tie.spec needed-order-requires find-place-requires enum-told refused-requires enum-known-slot slots-of-requires cast-fill fill-requires mul-fill
+    size-of-requires cast-fill-2 fill-requires-2 mul-accepted cast-accepted add-accepted accepted-requires same-length returns same-length-2 same-length-3
+    returns-2)
