@@ -1,11 +1,11 @@
 -- Laws of a list that is written over.
 use Prim.Native.Nat.{ℕ, zero, suc, _+_, _-_, _/_, _%_, _≤_, _<_}
-use mathlib.Core.Path.{_≡_, refl, _∙_, ap, subst}
+use mathlib.Core.Path.{_≡_, refl, sym, _∙_, ap, subst}
 use mathlib.Core.List.{List, [], _∷_, _++_, append-assoc, append-nil}
 use native.Mathlib.Omega.{arith}
 use native.Mathlib.Nat.{add-zero, zero-add}
-use lib.ListN.{length, getD, set, take, drop, length-append, length-drop, take-append-drop, drop-of-length-le, List·getD-append}
-use lib.Seq.{getD-append-add, getD-take, getD-drop, length-take-le, drop-at, take-set-le, drop-set-lt, set-split, take-suc-set}
+use lib.ListN.{length, getD, set, take, drop, length-append, length-drop, length-set, take-append-drop, drop-of-length-le, List·getD-append}
+use lib.Seq.{getD-append-add, getD-take, getD-drop, length-take-le, take-take, take-append-le, drop-at, drop-set-lt, take-suc-set}
 use Rattle.common.specs.Bytes.{bytesOf, over}
 
 pub over-none : (l : List ℕ) (at : ℕ) → over l at [] ≡ l
@@ -21,16 +21,34 @@ pub over-first : (l : List ℕ) (at x : ℕ) (xs : List ℕ) → at < length l �
 unfolding over
 over-first l at x xs h =
     let e : suc at + length xs ≡ at + suc (length xs) = omega arith in
-    rw (take-suc-set l at x h, drop-set-lt (suc at + length xs) l at x (omega arith), e, append-assoc (take at l) (x ∷ []) (xs ++ drop (at + suc (length xs)) l))
+    let rest : List ℕ = drop (at + suc (length xs)) l in
+    rw (take-suc-set l at x h, drop-set-lt (suc at + length xs) l at x (omega arith), e, append-assoc (take at l) (x ∷ []) (xs ++ rest))
+
+-- two parts, one after the other, are written over as one: the front part first
+pub over-append : (l : List ℕ) (at : ℕ) (xs ys : List ℕ) → at + length xs ≤ length l → over (over l at xs) (at + length xs) ys ≡ over l at (xs ++ ys)
+over-append l at [] ys h = rw (over-none, add-zero)
+over-append l at (x ∷ xs) ys h =
+    let e : at + suc (length xs) ≡ suc at + length xs = omega arith in
+    let n : length (set l at x) ≡ length l = length-set l at x in
+    rw (over-first l at x xs (omega arith), over-first l at x (xs ++ ys) (omega arith), e) (over-append (set l at x) (suc at) xs ys (omega arith))
+
+-- or the back part first
+pub over-prepend : (l : List ℕ) (at : ℕ) (xs ys : List ℕ) → at + length xs ≤ length l → over (over l (at + length xs) ys) at xs ≡ over l at (xs ++ ys)
+unfolding over
+over-prepend l at xs ys h =
+    let i : ℕ = at + length xs in
+    let rest : List ℕ = drop (i + length ys) l in
+    let n : length (take i l) ≡ i = length-take-le i l h in
+    let f : take at (take i l ++ (ys ++ rest)) ≡ take at l = take-append-le at (take i l) (ys ++ rest) (omega arith) ∙ take-take at i l (omega arith) in
+    let b : drop i (take i l ++ (ys ++ rest)) ≡ ys ++ rest = drop-at (take i l) (ys ++ rest) i n in
+    let e : at + length (xs ++ ys) ≡ i + length ys = ap (λ (k : ℕ). at + k) (length-append xs ys) ∙ omega arith in
+    rw (f, b, e, append-assoc xs ys rest)
 
 -- the last element stored before the others
 pub over-last : (l : List ℕ) (at : ℕ) (xs : List ℕ) (x : ℕ) → at + length xs < length l → over l at (xs ++ (x ∷ [])) ≡ over (set l (at + length xs) x) at xs
-unfolding over
 over-last l at xs x h =
     let i : ℕ = at + length xs in
-    let d : drop i (set l i x) ≡ x ∷ drop (suc i) l = ap (drop i) (set-split l i x h) ∙ drop-at (take i l) (x ∷ drop (suc i) l) i (length-take-le i l (omega arith)) in
-    let e : at + length (xs ++ (x ∷ [])) ≡ suc i = ap (λ (n : ℕ). at + n) (length-append xs (x ∷ [])) ∙ omega arith in
-    rw (e, take-set-le at l i x (omega arith), d, append-assoc xs (x ∷ []) (drop (suc i) l))
+    sym (over-prepend l at xs (x ∷ []) (omega arith)) ∙ ap (λ (r : List ℕ). over r at xs) (over-first l i x [] h ∙ over-none (set l i x) (suc i))
 
 module _ (l : List ℕ) (at : ℕ) (xs : List ℕ) (fits : at + length xs ≤ length l) where
   front : length (take at l) ≡ at

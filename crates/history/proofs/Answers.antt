@@ -1,22 +1,13 @@
 -- Answers as bytes, stored one after the other.
 use Prim.Native.Nat.{ℕ, suc, _+_, _≤_}
 use mathlib.Core.Path.{_≡_, sym, _∙_, ap}
-use mathlib.Core.List.{List, [], _∷_, _++_}
-use native.Mathlib.Nat.{add-zero}
+use mathlib.Core.List.{List, [], _∷_}
 use native.Mathlib.Omega.{arith}
-use lib.ListN.{length, set, length-set}
+use lib.ListN.{length}
 use Rattle.common.specs.Bytes.{over}
-use Rattle.common.proofs.Bytes.{over-none, over-first, length-bytesOf}
+use Rattle.common.proofs.Bytes.{over-none, over-append, length-bytesOf}
 use Rattle.heap.specs.Answers.{answerBytes, answersBytes}
 use Rattle.heap.specs.declared.Answer.{Answer}
-
--- two parts, one after the other, are written over as one
-over-append : (l : List ℕ) (at : ℕ) (xs ys : List ℕ) → at + length xs ≤ length l → over (over l at xs) (at + length xs) ys ≡ over l at (xs ++ ys)
-over-append l at [] ys h = rw (over-none, add-zero)
-over-append l at (x ∷ xs) ys h =
-    let e : at + suc (length xs) ≡ suc at + length xs = omega arith in
-    let n : length (set l at x) ≡ length l = length-set l at x in
-    rw (over-first l at x xs (omega arith), over-first l at x (xs ++ ys) (omega arith), e) (over-append (set l at x) (suc at) xs ys (omega arith))
 
 pub answers-next : (l : List ℕ) (at : ℕ) (x : Answer) (xs : List Answer) → at + 5 ≤ length l → over (over l at (answerBytes x)) (at + 5) (answersBytes xs) ≡ over l at (answersBytes (x ∷ xs))
 unfolding answersBytes

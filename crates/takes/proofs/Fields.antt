@@ -5,13 +5,12 @@ use mathlib.Core.Bool.{Bool, true, false, cond, _||_}
 use mathlib.Core.List.{List, [], _∷_, _++_, map, append-assoc}
 use native.Mathlib.Omega.{arith}
 use native.Mathlib.Numerals.{add-one}
-use native.Mathlib.Nat.{add-zero}
 use lib.Dec.{eqb}
-use lib.ListN.{length, getD, take, drop, set, length-append, length-drop, drop-of-length-le}
-use lib.Seq.{drop-nil, drop-at, take-add, sets, sets-eq}
+use lib.ListN.{length, getD, take, drop, length-append, length-drop, drop-of-length-le}
+use lib.Seq.{drop-nil, drop-at, take-add}
 use borrow.Author.Tests.{le-ltb}
 use Rattle.common.specs.Bytes.{bigEndian, bytesOf, over}
-use Rattle.common.proofs.Bytes.{over-none, length-over, length-bytesOf}
+use Rattle.common.proofs.Bytes.{over-none, over-append, length-bytesOf}
 use Rattle.takes.specs.Operations.{Kind, register, byte, word, kindsOf, size, sizes}
 use Rattle.takes.specs.Reading.{values, above15, highRegister}
 use Rattle.takes.specs.Writing.{valueBytes}
@@ -98,22 +97,6 @@ bytes-few : (ks : List Kind) (vs : List ℕ) → length (valueBytes ks vs) ≤ s
 bytes-few [] vs = omega arith
 bytes-few (κ ∷ ks) [] = omega arith
 bytes-few (κ ∷ ks) (v ∷ vs) = omega (arith, length-append (bytesOf (size κ) v) (valueBytes ks vs), length-bytesOf (size κ) v, bytes-few ks vs)
-
-sets-append : (l : List ℕ) (i : ℕ) (a b : List ℕ) → sets l i (a ++ b) ≡ sets (sets l i a) (i + length a) b
-sets-append l i [] b = ap (λ (k : ℕ). sets l k b) (sym (add-zero i))
-sets-append l i (x ∷ a) b =
-    let e : suc i + length a ≡ i + suc (length a) = omega arith in
-    sets-append (set l i x) (suc i) a b ∙ ap (λ (k : ℕ). sets (sets (set l i x) (suc i) a) k b) e
-
-over-sets : (l : List ℕ) (at : ℕ) (xs : List ℕ) → at + length xs ≤ length l → over l at xs ≡ sets l at xs
-unfolding over
-over-sets l at xs h = sym (sets-eq xs l at h ∙ append-assoc (take at l) xs (drop (at + length xs) l))
-
-over-append : (l : List ℕ) (at : ℕ) (a b : List ℕ) → at + length a + length b ≤ length l → over (over l at a) (at + length a) b ≡ over l at (a ++ b)
-over-append l at a b h =
-    over-sets (over l at a) (at + length a) b (omega (arith, length-over l at a (omega arith)))
-    ∙ (ap (λ (x : List ℕ). sets x (at + length a) b) (over-sets l at a (omega arith))
-    ∙ (sym (sets-append l at a b) ∙ sym (over-sets l at (a ++ b) (omega (arith, length-append a b)))))
 
 -- A turn of a loop over the columns of an operation. `size` is what the field at column k takes.
 module _ (op k : ℕ) where
