@@ -49,6 +49,6 @@ demand3 m five top cs =
       apart = places-apart (subst (Proper slotOrder m) (sym are) (agree .proper));
       room =
           λ before later c xs ys x whole split place.
-          room m five top before later c xs ys x _ (alike m five top before .agree)
+          room m five before later c xs ys x _ (alike m five top before .agree)
           (ap (λ (ds : List Call). ledgerRun m ds .answers) (sym whole) ∙ sym same ∙ split) place;
     }

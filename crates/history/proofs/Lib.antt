@@ -3,6 +3,7 @@ pub mod Agreement
 pub mod Live
 pub mod Pairs
 pub mod Tables
+pub mod Gets
 pub mod Simulation
 pub mod Runs
 pub mod Checking

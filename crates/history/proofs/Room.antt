@@ -2,8 +2,7 @@
 use Prim.Native.Nat.{ℕ, zero, suc, _+_, _-_, _*_, _^_, _≤_, _<_}
 use mathlib.Core.Path.{_≡_, refl, sym, _∙_, ap, subst}
 use mathlib.Core.Bool.{Bool, true, false, not, cond, _&&_, _||_, false≢true}
-use mathlib.Core.Logic.{⊎-elim}
-use mathlib.Core.List.{List, [], _∷_, _++_, List·Memᴰ, List·Memᴰ·head, List·Memᴰ·not-nil, List·Memᴰ·cases-cons, Memᴰ·append-right}
+use mathlib.Core.List.{List, [], _∷_, _++_, List·Memᴰ}
 use native.Mathlib.Nat.{le-refl, suc-mul, zero-add, le-of-mul-le-mul-right}
 use native.Mathlib.Omega.{arith}
 use lib.Dec.{ltb, eqb}
@@ -23,20 +22,20 @@ use Rattle.blocks.proofs.Places.{place-complete}
 use Rattle.blocks.proofs.Runs.{at-all}
 use Rattle.blocks.proofs.Sets.{missing-none, none-missing}
 use Rattle.blocks.proofs.Slots.{slot-start, Slots, slots-of, slots-held}
-use Rattle.heap.specs.Views.{slotOrder, placeFor, noPlace, placeAddress}
+use Rattle.heap.specs.Views.{slotOrder, placeFor, noPlace}
 use Rattle.heap.specs.Rules.{rules, argumentRules, stateRules}
 use Rattle.heap.specs.Effects.{settled, Outcome}
 use Rattle.heap.specs.Heaps.{Heap}
 use Rattle.heap.specs.declared.Answer.{Answer}
 use Rattle.heap.specs.declared.Call.{Call}
 use Rattle.heap.specs.declared.Call.the-variants.{Get, Give, Step, Read, Write, Left, Copy, Fill}
-use Rattle.history.specs.Ledgers.{Ledger, ledgerView, kept, ledgerStep, emptyLedger}
+use Rattle.history.specs.Ledgers.{Ledger, ledgerView, ledgerStep, emptyLedger}
 use Rattle.history.specs.Runs.{run, ledgerRun}
 use Rattle.history.specs.Histories.{liveBy, FreeRange, Starved, StarvedGet}
-use Rattle.history.proofs.Agreement.{Proper, more, Agree}
+use Rattle.history.proofs.Agreement.{Agree}
 use Rattle.history.proofs.Live.{lives}
-use Rattle.history.proofs.Pairs.{proper-set, unheld}
-use Rattle.history.proofs.Simulation.{step-same}
+use Rattle.history.proofs.Pairs.{unheld}
+use Rattle.history.proofs.Gets.{got, got-placed}
 
 -- ---- a range that the placing rule does not find
 
@@ -65,29 +64,12 @@ module _ (t m : ℕ) (bs : List Block) where
 
 -- ---- the range that a get takes
 
--- the last of the pairs shares no address with the others
-last-unshared : {t m : ℕ} (bs : List Block) (r : Block) → Proper t m (bs ++ (r ∷ [])) → Unshared bs r
-last-unshared [] r p b i q h k = List·Memᴰ·not-nil i
-last-unshared (c ∷ bs) r (more a d p) b i q h k =
-    ⊎-elim
-    (λ e. false≢true (sym (missing-none _ q (d q (subst (λ (x : Block). holds x q ≡ true) e h)) r (Memᴰ·append-right bs (List·Memᴰ·head refl))) ∙ k))
-    (λ j. last-unshared bs r p b j q h k) (List·Memᴰ·cases-cons i)
-
-settled-state : {S : Type 0} (n : ℕ) (old : S) (v : ℕ) (new : S) → n ≡ 0 → settled n old v new .state ≡ new
-settled-state zero old v new e = refl
-settled-state (suc n) old v new e = absurd (omega arith)
-
-module _ (m : ℕ) (five : 5 ≤ m) (top : m ≤ 16) (h : Heap) (l : Ledger) (agree : Agree m h l) (n : ℕ) where
-  abbrev got : Block
-  got = record { start = placeAddress (placeFor m n (ledgerView l)); order = neededOrder slotOrder m n }
-
-  -- an accepted get adds its block to the pairs, which stay apart: it was free
-  got-free : first (rules m (Get n) (ledgerView l)) ≡ 0 → FreeRange m (l .pairs) got
-  unfolding ledgerStep kept
+module _ (m : ℕ) (five : 5 ≤ m) (h : Heap) (l : Ledger) (agree : Agree m h l) (n : ℕ) where
+  -- the block that an accepted get adds was free
+  got-free : first (rules m (Get n) (ledgerView l)) ≡ 0 → FreeRange m (l .pairs) (got m l n)
   got-free e =
-      let new : ledgerStep m (Get n) l .state ≡ _ = settled-state _ l _ _ e in
-      let p : Proper slotOrder m (l .pairs ++ (got ∷ [])) = subst (λ (x : Ledger). Proper slotOrder m (x .pairs)) new (step-same m five top h l agree (Get n) .agree .proper) in
-      record { aligned = proper-set p .aligned got (Memᴰ·append-right (l .pairs) (List·Memᴰ·head refl)); unshared = last-unshared (l .pairs) got p }
+      let p = got-placed m (omega arith) l (agree .proper) n e in
+      record { aligned = p .aligned; unshared = λ b i q h k. false≢true (sym (missing-none (l .pairs) q (p .free q k) b i) ∙ h) }
 
 -- ---- the number 21
 
@@ -114,7 +96,7 @@ number-is : (m : ℕ) (c : Call) (l : Ledger) → ledgerStep m c l .answer .numb
 unfolding ledgerStep
 number-is m c l = settled-number (first (rules m c (ledgerView l))) l _ _
 
-module _ (m : ℕ) (five : 5 ≤ m) (top : m ≤ 16) (h : Heap) (l : Ledger) (agree : Agree m h l) where
+module _ (m : ℕ) (five : 5 ≤ m) (h : Heap) (l : Ledger) (agree : Agree m h l) where
   -- 21 by the rules
   abbrev full : Call → Type 0
   full c = first (rules m c (ledgerView l)) ≡ 21
@@ -140,7 +122,7 @@ module _ (m : ℕ) (five : 5 ≤ m) (top : m ≤ 16) (h : Heap) (l : Ledger) (ag
     where
       go : (u : Bool) → first (rules m (Get n) (ledgerView l)) ≡ cond {A = ℕ} u 21 0 → full (Get n)
       go true e = e
-      go false e = absurd (s .none _ (got-free m five top h l agree n e) (le-refl _))
+      go false e = absurd (s .none _ (got-free m five h l agree n e) (le-refl _))
 
   starved-by-rules : (c : Call) → (full c → StarvedGet m (l .pairs) c) × (StarvedGet m (l .pairs) c → full c)
   unfolding rules argumentRules stateRules lacks
@@ -191,12 +173,12 @@ module _ {S : Type 0} (step : Call → S → Outcome S) where
 abbrev Tells : ℕ → List Block → Call → Answer → Type 0
 Tells m live c x = (x .number ≡ 21 → StarvedGet m live c) × (StarvedGet m live c → x .number ≡ 21)
 
-pub room : (m : ℕ) → 5 ≤ m → m ≤ 16 → (before later : List Call) (c : Call) (xs ys : List Answer) (x : Answer) → (h : Heap) → Agree m h (ledgerRun m before .last)
+pub room : (m : ℕ) → 5 ≤ m → (before later : List Call) (c : Call) (xs ys : List Answer) (x : Answer) → (h : Heap) → Agree m h (ledgerRun m before .last)
     → ledgerRun m (before ++ (c ∷ later)) .answers ≡ xs ++ (x ∷ ys) → length xs ≡ length before
     → (x .number ≡ 21 → StarvedGet m (liveBy m before xs) c) × (StarvedGet m (liveBy m before xs) c → x .number ≡ 21)
-room m five top before later c xs ys x h agree split place =
+room m five before later c xs ys x h agree split place =
     let l = ledgerRun m before .last in
     let own : x ≡ ledgerStep m c l .answer = answer-at (ledgerStep m) (emptyLedger m) before later c xs ys x split place in
     let live : liveBy m before xs ≡ l .pairs = ap (liveBy m before) (answers-before (ledgerStep m) (emptyLedger m) before later c xs ys x split place) ∙ lives m before in
     subst (λ (y : Answer). Tells m (liveBy m before xs) c y) (sym own)
-    (subst (λ (bs : List Block). Tells m bs c (ledgerStep m c l .answer)) (sym live) (starved-number m five top h l agree c))
+    (subst (λ (bs : List Block). Tells m bs c (ledgerStep m c l .answer)) (sym live) (starved-number m five h l agree c))

@@ -4,11 +4,10 @@ use mathlib.Core.Path.{_≡_, refl, sym, _∙_, ap, subst, fun-ext}
 use mathlib.Core.Bool.{Bool, true, false, not, cond, false≢true}
 use mathlib.Core.List.{List, [], _∷_, _++_}
 use native.Mathlib.Omega.{arith}
-use native.Mathlib.Nat.{mul-assoc, zero-add}
-use lib.Dec.{ltb, eqb}
+use lib.Dec.{ltb}
 use lib.IntN.{ℤ, pos, negsuc, natAbs, pos-ne-negsuc}
 use lib.ListN.{length, getD, set, replicate, length-set, length-replicate}
-use lib.Pow.{pow-pos, pow-add, pow-mono}
+use lib.Pow.{pow-pos, pow-mono}
 use borrow.Author.Tests.{ltb-false, le-leb, eqb-true, eq-eqb, not-false}
 use Rattle.common.specs.Refusals.{Refusal, first}
 use Rattle.common.specs.Bytes.{over, bytesOf, copied}
@@ -17,20 +16,15 @@ use Rattle.blocks.specs.Blocks.{base, floor, Block, holds, Aligned, missing, or
 use Rattle.blocks.specs.Tables.{damagedBy, freeIn, referentIn}
 use Rattle.blocks.specs.Sets.{referentOf}
 use Rattle.blocks.specs.Pointers.{markBit, marked, address, sought, referentAt, exactSum, wrappedSum, checkBits, within}
-use Rattle.blocks.specs.Orders.{neededOrder}
-use Rattle.blocks.specs.declared.Place.{Place}
-use Rattle.blocks.specs.declared.Place.the-variants.{At, Nothing}
 use Rattle.blocks.specs.declared.Referent.{Referent}
 use Rattle.blocks.specs.declared.Referent.the-variants.{Missing, Found}
-use Rattle.blocks.proofs.Booleans.{and-both, or-false-right}
-use Rattle.blocks.proofs.Floors.{floor-multiple, floor-base, pow-split}
+use Rattle.blocks.proofs.Booleans.{and-both}
+use Rattle.blocks.proofs.Floors.{floor-multiple, floor-base}
 use Rattle.blocks.proofs.Sets.{held-low, held-high, found-member, found-aligned}
 use Rattle.blocks.proofs.SetTables.{table-length, free-missing, referent-same, table-undamaged}
 use Rattle.blocks.proofs.Checks.{check-exact}
-use Rattle.blocks.proofs.Orders.{Needed, needed-order}
-use Rattle.blocks.proofs.Slots.{block, Slots, aligned-of}
-use Rattle.blocks.proofs.Places.{range-inside, FreePlace, place-sound}
-use Rattle.heap.specs.Views.{View, slotOrder, referentOfPointer, placeFor, noPlace, placeAddress}
+use Rattle.blocks.proofs.Slots.{block}
+use Rattle.heap.specs.Views.{View, slotOrder, referentOfPointer}
 use Rattle.heap.specs.Rules.{rules, argumentRules, stateRules, not-start}
 use Rattle.heap.specs.Effects.{copyCount, fillCount, value, stored, cleared, settled, judged}
 use Rattle.heap.specs.Heaps.{Heap, heapOf, insideByCheck, heapView, stamped, entered, heapStep}
@@ -40,7 +34,8 @@ use Rattle.heap.specs.declared.Call.the-variants.{Get, Give, Step, Read, Write,
 use Rattle.heap.proofs.Judging.{clear}
 use Rattle.history.specs.Ledgers.{Ledger, ledgerView, without, kept, ledgerStep}
 use Rattle.history.proofs.Agreement.{Proper, Agree, Same}
-use Rattle.history.proofs.Pairs.{holds-by, proper-set, whole, unheld, free-slots, without-in, without-out, without-proper, added-in, added-out, added-proper}
+use Rattle.history.proofs.Gets.{Placed, got, got-placed}
+use Rattle.history.proofs.Pairs.{holds-by, proper-set, whole, without-in, without-out, without-proper, added-in, added-out, added-proper}
 use Rattle.history.proofs.Tables.{stamped-table}
 
 -- ---- the two views
@@ -113,39 +108,6 @@ agree-sound m five top h l g =
       whole = ap (λ (w : View). w .damaged) (view-same m five top h l g);
     }
 
--- ---- the place of a get
-
--- the block of order e at the start of the range found is aligned, and no pair holds an address of it
-record Placed (t m : ℕ) (bs : List Block) (b : Block) : Type 0 where
-  aligned : Aligned t m b
-  free : (q : ℕ) → holds b q ≡ true → referentOf bs q ≡ Missing
-
-module _ (t m e : ℕ) (bs : List Block) (p : Proper t m bs) (low : t ≤ e) (s k : ℕ) (w : FreePlace (unheld t bs) t 0 m e s k) where
-  at : s ≡ w .number * 2 ^ (k - t)
-  at = w .start ∙ zero-add _
-
-  -- the range begins at a multiple of the block's slots, which are at most its own
-  mul : s ≡ w .number * 2 ^ (k - e) * 2 ^ (e - t)
-  mul =
-      let z : (k - e) + (e - t) ≡ k - t = omega (arith, w .low) in
-      at ∙ (ap (λ (x : ℕ). w .number * x) (ap (λ (x : ℕ). 2 ^ x) (sym z) ∙ pow-add 2 (k - e) (e - t)) ∙ sym (mul-assoc (w .number) (2 ^ (k - e)) (2 ^ (e - t))))
-
-  smaller : 2 ^ (e - t) ≤ 2 ^ (k - t)
-  smaller = pow-mono (omega (arith, w .low))
-
-  ends : s + 2 ^ (e - t) ≤ 2 ^ (m - t)
-  ends = omega (arith, at, smaller, range-inside t m k (w .number) (omega (arith, w .low)) (w .high) (w .among))
-
-  abbrev at-start : Slots t m (block (base + s * 2 ^ t) e)
-  at-start = record { first = s; start = refl; size = pow-split t e low; within = ends; index = w .number * 2 ^ (k - e); multiple = mul }
-
-  placed : Placed t m bs (block (base + s * 2 ^ t) e)
-  placed =
-      record {
-        aligned = aligned-of t m (block (base + s * 2 ^ t) e) low (omega (arith, w .low, w .high)) at-start;
-        free = free-slots p (block (base + s * 2 ^ t) e) at-start (λ i l. w .free i (omega (arith, smaller)));
-      }
-
 -- ---- the calls
 
 length-copied : (b : List ℕ) (p q c : ℕ) → length (copied b p q c) ≡ length b
@@ -209,34 +171,23 @@ module _ (m : ℕ) (big : slotOrder ≤ m) (h : Heap) (l : Ledger) (g : Agree m 
         proper = kept-set;
       }
 
-  get-agree : (n : ℕ) → n ≤ 2 ^ m → (x : Place) → placeFor m n (ledgerView l) ≡ x → noPlace x ≡ false
-      → Agree m
-      (heapOf (cleared (h .arena) (placeAddress x - base) (neededOrder slotOrder m n))
-      (stamped (h .table) (placeAddress x) (neededOrder slotOrder m n) (neededOrder slotOrder m n)))
-      (record {
-        pairs = bs ++ (block (placeAddress x) (neededOrder slotOrder m n) ∷ []);
-        bytes = cleared (l .bytes) (placeAddress x - base) (neededOrder slotOrder m n);
-      })
-  get-agree n top Nothing q y = absurd (false≢true (sym y))
-  get-agree n top (At s k) q y =
-      let e : ℕ = neededOrder slotOrder m n in
-      let need : Needed slotOrder m n e = needed-order slotOrder m n big top in
-      let w = place-sound (unheld slotOrder bs) slotOrder 0 m e s k (omega (arith, need .high)) q in
-      let c : Block = block (base + s * 2 ^ slotOrder) e in
-      let z : Placed slotOrder m bs c = placed slotOrder m e bs (g .proper) (need .low) s k w in
+  get-agree : (n : ℕ) → first (rules m (Get n) (ledgerView l)) ≡ 0 → let c = got m l n in
+      Agree m (heapOf (cleared (h .arena) (c .start - base) (c .order)) (stamped (h .table) (c .start) (c .order) (c .order)))
+      (record { pairs = bs ++ (c ∷ []); bytes = cleared (l .bytes) (c .start - base) (c .order) })
+  get-agree n k =
+      let c : Block = got m l n in
+      let z : Placed slotOrder m bs c = got-placed m big l (g .proper) n k in
       let longer : Proper slotOrder m (bs ++ (c ∷ [])) = added-proper c (g .proper) (z .aligned) (z .free) in
-      let ins : base + s * 2 ^ slotOrder + 2 ^ e ≤ base + 2 ^ m = z .aligned .inside in
-      let zeros : List ℕ = replicate (2 ^ e) 0 in
-      let at : ℕ = placeAddress (At s k) - base in
-      let many : length zeros ≡ 2 ^ e = length-replicate (2 ^ e) 0 in
-      let fit : at + length zeros ≤ length (l .bytes) = omega (arith, arena-size) in
-      let r = over-agree at zeros fit in
+      let zeros : List ℕ = replicate (2 ^ c .order) 0 in
+      let many : length zeros ≡ 2 ^ c .order = length-replicate (2 ^ c .order) 0 in
+      let fit : c .start - base + length zeros ≤ length (l .bytes) = omega (arith, arena-size, z .aligned .place, z .aligned .inside) in
+      let r = over-agree (c .start - base) zeros fit in
       record {
         bytes = r .bytes;
         size = r .size;
         table =
-            ap (λ (x : List ℕ). stamped x (base + s * 2 ^ slotOrder) e e) (g .table)
-            ∙ stamped-table slotOrder m (omega arith) big bs (bs ++ (c ∷ [])) (proper-set (g .proper)) (proper-set longer) c (z .aligned) e
+            ap (λ (x : List ℕ). stamped x (c .start) (c .order) (c .order)) (g .table)
+            ∙ stamped-table slotOrder m (omega arith) big bs (bs ++ (c ∷ [])) (proper-set (g .proper)) (proper-set longer) c (z .aligned) (c .order)
             (λ a x. ap orderIn (added-in bs c a (z .free a x) x))
             (λ a x. added-out bs c a x);
         proper = longer;
@@ -247,9 +198,7 @@ module _ (m : ℕ) (big : slotOrder ≤ m) (h : Heap) (l : Ledger) (g : Agree m 
       → Agree m (heapOf (stored m c (ledgerView l) (h .arena)) (entered m c (ledgerView l) (h .table)))
       (record { pairs = kept m c (ledgerView l) bs; bytes = stored m c (ledgerView l) (l .bytes) })
   unfolding rules argumentRules stateRules stored entered kept
-  accepted-agree (Get n) z =
-      let c = clear (rules m (Get n) (ledgerView l)) refl z in
-      get-agree n (ltb-false (2 ^ m) n (or-false-right (eqb n 0) _ (c 10))) (placeFor m n (ledgerView l)) refl (c 21)
+  accepted-agree (Get n) z = get-agree n z
   accepted-agree (Give p) z =
       let c = clear (rules m (Give p) (ledgerView l)) refl z in
       give-agree p (referentOfPointer (ledgerView l) p) (plain p (c 13)) (c 22) (c 23)
