@@ -1,21 +1,97 @@
--- `unchecked::copy` meets its contract.
+-- Both pointers have referents, so as many bytes as the lesser part holds lie in the arena at either place. Where one has none the call is refused.
 use Prim.Native.Nat.{ℕ, _+_, _-_, _≤_, min}
 use mathlib.Core.Path.{_≡_, _∙_, refl, sym, ap, ap₂}
-use mathlib.Core.Bool.{_||_}
+use mathlib.Core.Bool.{true, _||_}
+use mathlib.Core.List.{List}
 use native.Mathlib.Omega.{arith}
 use borrow.Author.Needs.{needs}
 use lib.ListN.{length}
 use Rattle.common.specs.Bytes.{copied}
-use Rattle.blocks.specs.Blocks.{base, missing}
+use Rattle.blocks.specs.Blocks.{base, missing, leftIn}
 use Rattle.blocks.specs.Tables.{referentIn}
 use Rattle.blocks.specs.Pointers.{marked, sought, referentAt}
+use Rattle.blocks.specs.declared.Referent.{Referent}
 use Rattle.blocks.specs.declared.Referent.the-variants.{Found}
 use Rattle.blocks.proofs.Booleans.{or-right, or-false-left, or-false-right}
 use Rattle.heap.specs.Rules.{argumentRules, stateRules}
-use Rattle.heap.specs.Heaps.{outcome}
+use Rattle.heap.specs.Heaps.{heapOf, heapStep, outcome}
+use Rattle.heap.specs.declared.Answer.{Answer}
+use Rattle.heap.specs.declared.Call.the-variants.{Copy}
 use Rattle.heap.proofs.Accesses.{Within, left-asks, at-base, room, missing-refused, spot, copy-done}
+use Rattle.heap.proofs.Judging.{answer}
 use Rattle.heap.proofs.unchecked.copy.Statement.{statement}
 use Rattle.heap.proofs.unchecked.copy.Tie as tie
+
+-- what the call is lent
+module _ (e : tie.Start) where
+  abbrev bytes : List ℕ
+  bytes = e .args .arena .now
+
+  abbrev entries : List ℕ
+  entries = e .args .table .now
+
+  abbrev referent : ℕ → Referent
+  referent p = referentAt (referentIn 4 entries) (sought 4 p)
+
+  without-referent : {x : Answer} → x ≡ answer 22 0 → (missing (referent (e .args .p)) || missing (referent (e .args .q))) ≡ true
+      → outcome x bytes entries ≡ heapStep (e .args .m) (Copy (e .args .p) (e .args .q) (e .args .n)) (heapOf bytes entries)
+  unfolding stateRules
+  without-referent k d = ap (λ (y : Answer). outcome y bytes entries) k ∙ missing-refused _ _ _ _ (e .pre) _ _ refl d
+
+-- once both referents are known
+module _ (c : tie.After-z) where
+  abbrev at-s : tie.After-s
+  at-s = c .before .before .before .before
+
+  abbrev entry : tie.Start
+  entry = at-s .before .before .before .before .before
+
+  abbrev target : Referent
+  target = Found (at-s .s .given .0 .0) (at-s .s .given .0 .1 .0)
+
+  abbrev source : Referent
+  source = Found (c .z .given .0 .0) (c .z .given .0 .1 .0)
+
+  found : referent entry (entry .args .p) ≡ target
+  found = sym (at-s .before .before .referent-of .ensures) ∙ at-s .s .given .1
+
+  found-2 : referent entry (entry .args .q) ≡ source
+  found-2 = sym (c .before .before .referent-of2 .ensures) ∙ c .z .given .1
+
+  within : Within (entry .args .m) (at-s .s .given .0 .0) (at-s .s .given .0 .1 .0) (entry .args .p)
+  unfolding argumentRules
+  within = spot _ _ (bytes entry) (entries entry) (entry .pre) _ _ _ found (or-false-left _ _)
+
+  within-2 : Within (entry .args .m) (c .z .given .0 .0) (c .z .given .0 .1 .0) (entry .args .q)
+  unfolding argumentRules
+  within-2 = spot _ _ (bytes entry) (entries entry) (entry .pre) _ _ _ found-2 (or-false-right (marked (entry .args .p)) _)
+
+-- once the count is
+module _ (c : tie.After-least2) where
+  abbrev at-z : tie.After-z
+  at-z = c .before .before .before .before .before
+
+  abbrev start : tie.Start
+  start = entry at-z
+
+  abbrev count : ℕ
+  count = c .least2 .result
+
+  counted : count ≡ min (start .args .n) (min (leftIn (target at-z) (start .args .p)) (leftIn (source at-z) (start .args .q)))
+  counted =
+      c .least2 .ensures
+      ∙ ap (min (start .args .n)) (c .before .least .ensures ∙ ap₂ min (c .before .before .before .left-in .ensures) (c .before .before .left-in2 .ensures))
+
+-- and once the bytes are copied
+module _ (c : tie.After-copy) where
+  abbrev at-count : tie.After-least2
+  at-count = c .before .before .before .before
+
+  abbrev whole : List ℕ
+  whole = bytes (start at-count)
+
+  moved : c .copy .last .0 ≡ copied whole (start at-count .args .p - base) (start at-count .args .q - base) (count at-count)
+  moved = c .copy .ensures ∙ ap₂ (λ (x y : ℕ). copied whole x y (count at-count)) (c .before .before .offset .ensures) (c .before .offset2 .ensures)
 
 referent-of-requires : tie.Need-referent-of-requires
 referent-of-requires c κs = search needs
@@ -30,12 +106,10 @@ refused-requires : tie.Need-refused-requires
 refused-requires c κs = search needs
 
 returns : tie.Need-returns
-unfolding stateRules
 returns c =
-    let entry = c .before .before .before .before .before .before in
-    ap (λ x. outcome x (entry .args .arena .now) (entry .args .table .now)) (c .refused .ensures)
-    ∙ missing-refused _ _ _ _ (entry .pre) _ _ refl
-    (ap (λ x. missing x || missing (referentAt (referentIn 4 (entry .args .table .now)) (sought 4 (entry .args .q)))) (sym (c .before .before .before .referent-of .ensures) ∙ c .before .enum-told .given .1))
+    let e = c .before .before .before .before .before .before in
+    let gone = sym (c .before .before .before .referent-of .ensures) ∙ c .before .enum-told .given .1 in
+    without-referent e (c .refused .ensures) (ap (λ (x : Referent). missing x || missing (referent e (e .args .q))) gone)
 
 referent-of-requires-2 : tie.Need-referent-of-requires-2
 referent-of-requires-2 c κs = search needs
@@ -50,34 +124,10 @@ refused-requires-2 : tie.Need-refused-requires-2
 refused-requires-2 c κs = search needs
 
 returns-2 : tie.Need-returns-2
-unfolding stateRules
 returns-2 c =
-    let entry = c .before .before .before .before .before .before .before .before .before .before in
-    ap (λ x. outcome x (entry .args .arena .now) (entry .args .table .now)) (c .refused2 .ensures)
-    ∙ missing-refused _ _ _ _ (entry .pre) _ _ refl
-    (or-right (missing (referentAt (referentIn 4 (entry .args .table .now)) (sought 4 (entry .args .p)))) (ap missing (sym (c .before .before .before .referent-of2 .ensures) ∙ c .before .enum-told2 .given .1)))
-
--- both referents
-module _ (c : tie.After-z) where
-  abbrev first : tie.After-s
-  first = c .before .before .before .before
-
-  abbrev entry : tie.Start
-  entry = first .before .before .before .before .before
-
-  found : referentAt (referentIn 4 (entry .args .table .now)) (sought 4 (entry .args .p)) ≡ Found (first .s .given .0 .0) (first .s .given .0 .1 .0)
-  found = sym (first .before .before .referent-of .ensures) ∙ first .s .given .1
-
-  found-2 : referentAt (referentIn 4 (entry .args .table .now)) (sought 4 (entry .args .q)) ≡ Found (c .z .given .0 .0) (c .z .given .0 .1 .0)
-  found-2 = sym (c .before .before .referent-of2 .ensures) ∙ c .z .given .1
-
-  within : Within (entry .args .m) (first .s .given .0 .0) (first .s .given .0 .1 .0) (entry .args .p)
-  unfolding argumentRules
-  within = spot _ _ (entry .args .arena .now) (entry .args .table .now) (entry .pre) _ _ _ found (or-false-left _ _)
-
-  within-2 : Within (entry .args .m) (c .z .given .0 .0) (c .z .given .0 .1 .0) (entry .args .q)
-  unfolding argumentRules
-  within-2 = spot _ _ (entry .args .arena .now) (entry .args .table .now) (entry .pre) _ _ _ found-2 (or-false-right (marked (entry .args .p)) _)
+    let e = c .before .before .before .before .before .before .before .before .before .before in
+    let gone = sym (c .before .before .before .referent-of2 .ensures) ∙ c .before .enum-told2 .given .1 in
+    without-referent e (c .refused2 .ensures) (or-right (missing (referent e (e .args .p))) (ap missing gone))
 
 left-in-requires : tie.Need-left-in-requires
 left-in-requires c κs = left-asks (within (c .before))
@@ -92,22 +142,20 @@ least-requires-2 : tie.Need-least-requires-2
 least-requires-2 c κs = search needs
 
 offset-requires : tie.Need-offset-requires
-offset-requires c κs = at-base (within (c .before .before .before .before .before .before))
+offset-requires c κs = at-base (within (at-z (c .before)))
 
 offset-requires-2 : tie.Need-offset-requires-2
-offset-requires-2 c κs = at-base (within-2 (c .before .before .before .before .before .before .before))
+offset-requires-2 c κs = at-base (within-2 (at-z (c .before .before)))
 
 cast-copy : tie.Need-cast-copy
 cast-copy c = search needs
 
 copy-requires : tie.Need-copy-requires
 copy-requires c κs =
-    let n = c .before .before .before in
-    let k = n .before .before .before .before .before in
-    let x : c .before .offset .result + n .least2 .result ≤ length (entry k .args .arena .now) =
-    omega (arith, room (within k) (n .least2 .result) (omega arith), entry k .pre .sound .size) in
-    let y : c .offset2 .result + n .least2 .result ≤ length (entry k .args .arena .now) =
-    omega (arith, room (within-2 k) (n .least2 .result) (omega arith), entry k .pre .sound .size) in
+    let k = c .before .before .before in
+    let size = start k .pre .sound .size in
+    let x : c .before .offset .result + count k ≤ length (bytes (start k)) = omega (arith, room (within (at-z k)) (count k) (omega arith), size) in
+    let y : c .offset2 .result + count k ≤ length (bytes (start k)) = omega (arith, room (within-2 (at-z k)) (count k) (omega arith), size) in
     (x, y)
 
 accepted-requires : tie.Need-accepted-requires
@@ -119,13 +167,10 @@ same-length c = search needs
 returns-3 : tie.Need-returns-3
 returns-3 c =
     let n = c .before .before .before in
-    let l = n .before .before .before .before in
-    let k = l .before .before .before .before .before in
-    let b : n .copy .last .0 ≡ copied (entry k .args .arena .now) (entry k .args .p - base) (entry k .args .q - base) (l .least2 .result) =
-    n .copy .ensures ∙ ap₂ (λ (x y : ℕ). copied (entry k .args .arena .now) x y (l .least2 .result)) (n .before .before .offset .ensures) (n .before .offset2 .ensures) in
-    ap (λ x. outcome x (n .copy .last .0) (entry k .args .table .now)) (c .accepted .ensures)
-    ∙ copy-done _ (entry k .args .arena .now) (entry k .args .table .now) _ _ _ (found k) _ _ _ (found-2 k) _ _ _ (entry k .pre)
-    (l .least2 .ensures ∙ ap (min (entry k .args .n)) (l .before .least .ensures ∙ ap₂ min (l .before .before .before .left-in .ensures) (l .before .before .left-in2 .ensures))) b
+    let k = at-count n in
+    let e = start k in
+    ap (λ (x : Answer). outcome x (n .copy .last .0) (entries e)) (c .accepted .ensures)
+    ∙ copy-done _ (bytes e) (entries e) _ _ _ (found (at-z k)) _ _ _ (found-2 (at-z k)) _ _ _ (e .pre) (counted k) (moved n)
 
 pub copy-spec : {M : Type 1} → statement M
 copy-spec =
