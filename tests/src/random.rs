@@ -227,7 +227,12 @@ pub fn call(rng: &mut Rng, table: &[u8], m: u32, known: &[u32]) -> Call {
         8 => Call::Left { p: pointer(rng, table, known) },
         9 => {
             let p = pointer(rng, table, known);
-            let q = if rng.once_in(3) { p.wrapping_add(distance(rng, m)) } else { pointer(rng, table, known) };
+            let q = match rng.below(3) {
+                0 => p.wrapping_add(distance(rng, m)),
+                // so that the ranges overlap
+                1 => p.wrapping_add_signed(rng.pick(&[-5, -2, -1, 1, 2, 5])),
+                _ => pointer(rng, table, known),
+            };
             Call::Copy { p, q, n: amount(rng, m) }
         }
         _ => Call::Fill { p: pointer(rng, table, known), v: rng.byte(), n: amount(rng, m) },
@@ -254,13 +259,32 @@ pub fn record(rng: &mut Rng, m: u32, registers: u32) -> Record {
     }
 }
 
+/// Records that store four bytes and copy them a few bytes up or down, over themselves.
+fn shift(rng: &mut Rng, m: u32, registers: u32) -> [Record; 3] {
+    let mut drawn = || rng.below(registers) as u8;
+    let (a, b) = (drawn(), drawn());
+    let (to, from) = rng.pick(&[(a, b), (b, a)]);
+    [
+        Record::Write { a, w: 4, v: rng.word() },
+        Record::Step { d: b, a, i: rng.within(1, 3) },
+        Record::Copy { d: 13, a: to, b: from, n: amount(rng, m) },
+    ]
+}
+
 /// A file with up to `most` records, broken once in three.
 pub fn file(rng: &mut Rng, m: u32, most: u32) -> Vec<u8> {
     let registers = rng.pick(&[3, 6, 16]);
-    let mut file = vec![takes::VERSION, m as u8];
-    for _ in 0..rng.within(0, most) {
-        append(&mut file, record(rng, m, registers));
+    let wanted = rng.within(0, most) as usize;
+    let mut records = Vec::new();
+    while records.len() < wanted {
+        if rng.once_in(40) {
+            records.extend(shift(rng, m, registers));
+        } else {
+            records.push(record(rng, m, registers));
+        }
     }
+    let mut file = vec![takes::VERSION, m as u8];
+    records.into_iter().take(wanted).for_each(|record| append(&mut file, record));
     if rng.once_in(3) {
         break_file(rng, &mut file);
     }
