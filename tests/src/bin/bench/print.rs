@@ -15,24 +15,37 @@ fn head(columns: &[&str]) {
 pub const LINE: [&str; 5] = ["work", "library ns", "plain Rust ns", "ratio", "goal"];
 
 /// The library's time, plain Rust's, their ratio against the goal, and what the table has besides.
-pub fn line(name: &str, goal: f64, [ours, plain]: [f64; 2], more: &[f64]) {
+pub fn line(name: &str, goal: f64, [ours, plain]: [f64; 2], more: &[String]) {
     let ratio = ours / plain;
     let verdict = if missed(ratio, goal) { "missed" } else { "met" };
     print!("| {name} | {ours:.2} | {plain:.2} | {ratio:.2} | {goal:.1} {verdict} |");
-    numbers(more);
+    fields(more);
 }
 
 /// A name and numbers.
 pub fn row(name: &str, values: &[f64]) {
     print!("| {name} |");
-    numbers(values);
+    fields(&values.iter().copied().map(number).collect::<Vec<_>>());
 }
 
-fn numbers(values: &[f64]) {
-    for value in values {
-        print!(" {value:.2} |");
+fn fields(texts: &[String]) {
+    for text in texts {
+        print!(" {text} |");
     }
     println!();
+}
+
+pub fn number(value: f64) -> String {
+    format!("{value:.2}")
+}
+
+/// A ratio, in bold where it misses the goal.
+pub fn judged(ratio: f64, goal: f64) -> String {
+    if missed(ratio, goal) {
+        format!("**{ratio:.2}**")
+    } else {
+        number(ratio)
+    }
 }
 
 /// A ratio that would print as the goal meets it.
@@ -63,11 +76,8 @@ impl Grid {
         let columns = [&["m", "goal"], &self.kinds[..]].concat();
         title(&format!("{text}: library / plain Rust"), &columns);
         for (m, goal, cells) in &self.rows {
-            let ratio = |[ours, plain]: [f64; 2]| match ours / plain {
-                ratio if missed(ratio, *goal) => format!("**{ratio:.2}**"),
-                ratio => format!("{ratio:.2}"),
-            };
-            println!("| {m} | {goal:.1} | {} |", joined(cells, ratio));
+            let ratios = joined(cells, |[ours, plain]| judged(ours / plain, *goal));
+            println!("| {m} | {goal:.1} | {ratios} |");
         }
         println!("\nNanoseconds, library and plain Rust:\n");
         head(&[&["m"], &self.kinds[..]].concat());

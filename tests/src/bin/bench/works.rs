@@ -132,6 +132,11 @@ pub fn memmove<'a>(to: u32, from: u32, n: u32, times: usize) -> Work<'a> {
     })
 }
 
+/// One work, and then another.
+pub fn then<'a>(mut first: Work<'a>, mut second: Work<'a>) -> Work<'a> {
+    Box::new(move |heap| first(heap) ^ second(heap))
+}
+
 /// Reads each byte of the table once, many at a time: no scan can be faster.
 pub fn read_table<'a>() -> Work<'a> {
     Box::new(|heap| heap.table.iter().fold(0, |all, &entry| all | entry).into())
