@@ -1,6 +1,7 @@
 /* The heap with baggy bounds and the runner of takes, for the device's C and C++ code.
  *
- * Link with target/staticlib/libcabi.a, which `rt staticlib cabi` makes for x86-64.
+ * Link with target/staticlib/libcabi.a, which `rt staticlib cabi` makes for x86-64. It needs memset and memmove
+ * of the C library.
  *
  * Lent buffers. The heap owns no memory: each call is lent the arena (a power of two from 32 to 65,536
  * bytes) and the table (one byte for each 16 bytes of the arena) and keeps neither. A buffer of n bytes
@@ -123,8 +124,8 @@ tulivombe_answer tulivombe_write(uint8_t *arena, size_t arena_len, const uint8_t
 tulivombe_answer tulivombe_left(const uint8_t *arena, size_t arena_len, const uint8_t *table, size_t table_len,
                                 uint32_t p);
 
-/* Copies up to n bytes from q to p, cut short at the end of either block, in rising order, each byte read
- * after the one before is stored. Refused: 8, 13, 20, 22. Value: the count of bytes copied. */
+/* Copies up to n bytes from q to p, cut short at the end of either block. Where the two ranges overlap, as with
+ * memmove, p gets what q's bytes were before the call. Refused: 8, 13, 20, 22. Value: the count of bytes copied. */
 tulivombe_answer tulivombe_copy(uint8_t *arena, size_t arena_len, const uint8_t *table, size_t table_len,
                                 uint32_t p, uint32_t q, uint32_t n);
 

@@ -193,8 +193,9 @@ impl Ledger {
             Call::Left { p } => self.left(p) as u32,
             Call::Copy { p, q, n } => {
                 let count = i64::from(n).min(self.left(p)).min(self.left(q));
-                for k in 0..count {
-                    *self.byte(i64::from(p) + k) = *self.byte(i64::from(q) + k);
+                let before: Vec<u8> = (0..count).map(|k| *self.byte(i64::from(q) + k)).collect();
+                for (k, byte) in (0..).zip(before) {
+                    *self.byte(i64::from(p) + k) = byte;
                 }
                 count as u32
             }

@@ -4,11 +4,13 @@ use mathlib.Core.Path.{_≡_, _∙_, ap}
 use mathlib.Core.List.{List}
 use native.Mathlib.Omega.{arith}
 use native.Mathlib.Nat.{pow-suc, pow-le-pow-right}
-use lib.ListN.{length, getD, set, replicate}
+use lib.ListN.{length, getD, set, replicate, take, drop}
+use lib.Seq.{drop-cons}
 use Rattle.common.specs.Bytes.{bigEndian, bytesOf, over, copied}
 use Rattle.common.proofs.Bytes.{over-none, over-first, over-last, length-bytesOf}
 
-pub fill-turn : (l : List ℕ) (at n v i : ℕ) → i < n → at + i < length l → over l (at + i) (replicate (n - i) v) ≡ over (set l (at + i) v) (at + (i + 1)) (replicate (n - (i + 1)) v)
+pub fill-turn : (l : List ℕ) (at n v i : ℕ) → i < n → at + i < length l
+    → over l (at + i) (replicate (n - i) v) ≡ over (set l (at + i) v) (at + (i + 1)) (replicate (n - (i + 1)) v)
 fill-turn l at n v i h k =
     let e : n - i ≡ suc (n - (i + 1)) = omega arith in
     let a : suc (at + i) ≡ at + (i + 1) = omega arith in
@@ -17,19 +19,23 @@ fill-turn l at n v i h k =
 pub fill-end : (l : List ℕ) (at n v i : ℕ) → n ≤ i → over l (at + i) (replicate (n - i) v) ≡ l
 fill-end l at n v i h = let e : n - i ≡ 0 = omega arith in rw e (over-none l (at + i))
 
-pub copy-turn : (l : List ℕ) (to from c i : ℕ) → i < c → copied l (to + i) (from + i) (c - i) ≡ copied (set l (to + i) (getD l (from + i) 0)) (to + (i + 1)) (from + (i + 1)) (c - (i + 1))
+pub copy-turn : (l src : List ℕ) (to from c i : ℕ) → i < c → to + c ≤ length l → from + c ≤ length src
+    → copied l (to + i) src (from + i) (c - i) ≡ copied (set l (to + i) (getD src (from + i) 0)) (to + (i + 1)) src (from + (i + 1)) (c - (i + 1))
 unfolding copied
-copy-turn l to from c i h =
+copy-turn l src to from c i h k f =
     let e : c - i ≡ suc (c - (i + 1)) = omega arith in
     let a : suc (to + i) ≡ to + (i + 1) = omega arith in
     let b : suc (from + i) ≡ from + (i + 1) = omega arith in
-    rw (e, ← a, ← b)
+    let x : ℕ = getD src (from + i) 0 in
+    let rest : List ℕ = take (c - (i + 1)) (drop (from + (i + 1)) src) in
+    rw (e, drop-cons src (from + i) 0 (omega arith), b, over-first l (to + i) x rest (omega arith), a)
 
-pub copy-end : (l : List ℕ) (to from c i : ℕ) → c ≤ i → copied l (to + i) (from + i) (c - i) ≡ l
+pub copy-end : (l src : List ℕ) (to from k : ℕ) → k ≤ 0 → copied l to src from k ≡ l
 unfolding copied
-copy-end l to from c i h = let e : c - i ≡ 0 = omega arith in rw e
+copy-end l src to from k h = let e : k ≡ 0 = omega arith in rw e (over-none l to)
 
-pub write-turn : (l : List ℕ) (at k v : ℕ) → 0 < k → at + k ≤ length l → over l at (bytesOf k v) ≡ over (set l (at + (k - 1)) (v % 256)) at (bytesOf (k - 1) (v / 256))
+pub write-turn : (l : List ℕ) (at k v : ℕ) → 0 < k → at + k ≤ length l
+    → over l at (bytesOf k v) ≡ over (set l (at + (k - 1)) (v % 256)) at (bytesOf (k - 1) (v / 256))
 unfolding bytesOf
 write-turn l at k v h f =
     let e : k ≡ suc (k - 1) = omega arith in

@@ -1,7 +1,7 @@
 -- Bytes in a list: big-endian numbers, and a part of the list written over.
 use Prim.Native.Nat.{ℕ, zero, suc, _+_, _*_, _/_, _%_}
 use mathlib.Core.List.{List, [], _∷_, _++_}
-use lib.ListN.{length, getD, set, take, drop}
+use lib.ListN.{length, getD, take, drop}
 
 -- the w bytes from `at` on, as an unsigned big-endian number
 unfoldable pub bigEndian : List ℕ → ℕ → ℕ → ℕ
@@ -17,7 +17,7 @@ bytesOf (suc w) v = bytesOf w (v / 256) ++ (v % 256 ∷ [])
 unfoldable pub over : List ℕ → ℕ → List ℕ → List ℕ
 over l at xs = take at l ++ (xs ++ drop (at + length xs) l)
 
--- c elements from place `from` to place `to` in rising order, each read after the one before is stored
-unfoldable pub copied : List ℕ → ℕ → ℕ → ℕ → List ℕ
-copied l to from zero = l
-copied l to from (suc c) = copied (set l to (getD l from 0)) (suc to) (suc from) c
+-- l with c elements of src, from its place `from` on (all that it has, if they are fewer), in the places from `to` on. Where src is l itself, they are what
+-- stood there before, whichever way the two ranges overlap.
+unfoldable pub copied : List ℕ → ℕ → List ℕ → ℕ → ℕ → List ℕ
+copied l to src from c = over l to (take c (drop from src))

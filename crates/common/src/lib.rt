@@ -1,8 +1,12 @@
 // What every crate above shares: big-endian numbers in a lent slice, and a part of it filled or copied.
 ghost use mathlib.Core.Path.{_≡_};
-ghost use Prim.Native.Nat.{_+_, _≤_};
+ghost use Prim.Native.Nat.{_+_, _≤_, min};
 ghost use lib.ListN.{length, replicate};
 ghost use Rattle.common.specs.Bytes.{bigEndian, bytesOf, over, copied};
+
+// How many bytes a copy reads before it stores them. The compiler makes one memmove of the two loops over a chunk and leaves out the array
+// between them; with smaller chunks the calls of memmove begin to cost.
+const CHUNK: usize = 16384;
 
 fn wide(x: u8) -> u32
     ensures { λ r. ⌜ r ≡ x ⌝ }
@@ -50,14 +54,72 @@ pub fn fill(s: &mut [u8], at: usize, n: usize, v: u8)
     }
 }
 
-// Copies c bytes from `from` to `to` in rising order, each read after the one before is stored.
-pub fn copy(s: &mut [u8], to: usize, from: usize, c: usize)
-    requires { ⌜ (to + c ≤ length (now s)) × (from + c ≤ length (now s)) ⌝ }
-    ensures { λ _. ⌜ now (s .exit) ≡ copied (now (s .entry)) to from c ⌝ }
+// Copies c bytes of another slice.
+fn copy_from_slice(s: &mut [u8], to: usize, source: &[u8], from: usize, c: usize)
+    requires { ⌜ (to + c ≤ length (now s)) × (from + c ≤ length (now source)) ⌝ }
+    ensures { λ _. ⌜ now (s .exit) ≡ copied (now (s .entry)) to (now (source .entry)) from c ⌝ }
 {
     let mut i = 0usize;
     while i < c {
-        s[to + i] = s[from + i];
+        s[to + i] = source[from + i];
         i += 1;
+    }
+}
+
+// Copies a chunk. All of it is read before any of it is stored, so its two ranges may overlap.
+fn copy_chunk(s: &mut [u8], to: usize, from: usize, n: usize)
+    requires { ⌜ (to + n ≤ length (now s)) × (from + n ≤ length (now s)) × (n ≤ 16384) ⌝ }
+    ensures { λ _. ⌜ now (s .exit) ≡ copied (now (s .entry)) to (now (s .entry)) from n ⌝ }
+{
+    let mut chunk = [0u8; CHUNK];
+    copy_from_slice(&mut chunk, 0, s, from, n);
+    copy_from_slice(s, to, &chunk, 0, n);
+}
+
+// How many of n bytes go at once.
+fn chunk_length(n: usize) -> usize
+    ensures { λ r. ⌜ r ≡ min n 16384 ⌝ }
+{
+    if n < CHUNK {
+        return n;
+    }
+    CHUNK
+}
+
+// Copies downwards, or in place: in rising order no byte of the source is stored over before it is read.
+fn copy_rising(s: &mut [u8], to: usize, from: usize, c: usize)
+    requires { ⌜ (to + c ≤ length (now s)) × (from + c ≤ length (now s)) × (to ≤ from) ⌝ }
+    ensures { λ _. ⌜ now (s .exit) ≡ copied (now (s .entry)) to (now (s .entry)) from c ⌝ }
+{
+    let mut i = 0usize;
+    while i < c {
+        let n = chunk_length(c - i);
+        copy_chunk(s, to + i, from + i, n);
+        i += n;
+    }
+}
+
+// Copies upwards, for the same reason in falling order.
+fn copy_falling(s: &mut [u8], to: usize, from: usize, c: usize)
+    requires { ⌜ (to + c ≤ length (now s)) × (from + c ≤ length (now s)) × (from ≤ to) ⌝ }
+    ensures { λ _. ⌜ now (s .exit) ≡ copied (now (s .entry)) to (now (s .entry)) from c ⌝ }
+{
+    let mut k = c;
+    while 0 < k {
+        let n = chunk_length(k);
+        k -= n;
+        copy_chunk(s, to + k, from + k, n);
+    }
+}
+
+// Copies c bytes from `from` to `to`: what the source held before the call, whichever way the two ranges overlap.
+pub fn copy(s: &mut [u8], to: usize, from: usize, c: usize)
+    requires { ⌜ (to + c ≤ length (now s)) × (from + c ≤ length (now s)) ⌝ }
+    ensures { λ _. ⌜ now (s .exit) ≡ copied (now (s .entry)) to (now (s .entry)) from c ⌝ }
+{
+    if to <= from {
+        copy_rising(s, to, from, c);
+    } else {
+        copy_falling(s, to, from, c);
     }
 }

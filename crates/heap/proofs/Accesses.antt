@@ -143,10 +143,10 @@ module _ (m : ℕ) (a t : List ℕ) (p s e : ℕ) (f : referentOfPointer (heapVi
   -- with a second pointer y
   module _ (y s2 e2 : ℕ) (g : referentOfPointer (heapView m (heapOf a t)) y ≡ Found s2 e2) where
     pub copy-done : (n k : ℕ) (b : List ℕ) → Ready m (Copy p y n) a t → k ≡ min n (min (leftIn (Found s e) p) (leftIn (Found s2 e2) y))
-        → b ≡ copied a (p - base) (y - base) k → outcome (answer 0 k) b t ≡ heapStep m (Copy p y n) (heapOf a t)
+        → b ≡ copied a (p - base) a (y - base) k → outcome (answer 0 k) b t ≡ heapStep m (Copy p y n) (heapOf a t)
     unfolding stateRules value stored entered
     copy-done n k b z r u =
         ap (λ (x : List ℕ). outcome (answer 0 k) x t) u
-        ∙ ap (λ (x : ℕ). outcome (answer 0 x) (copied a (p - base) (y - base) x) t)
+        ∙ ap (λ (x : ℕ). outcome (answer 0 x) (copied a (p - base) a (y - base) x) t)
         (r ∙ ap₂ (λ (i j : Referent). min n (min (leftIn i p) (leftIn j y))) (sym f) (sym g))
         ∙ step-accepted m (Copy p y n) a t z (rw (f, g))

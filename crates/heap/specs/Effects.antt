@@ -1,4 +1,4 @@
--- Document 01, "The eight calls", with request 2 of document 02: the value of a call that is not refused, and the bytes that it leaves.
+-- Document 01, "The eight calls", with requests 2 and 3 of document 02: the value of a call that is not refused, and the bytes that it leaves.
 -- Both are said over a view, for the heap and the ledger alike.
 use Prim.Native.Nat.{ℕ, zero, suc, _+_, _-_, _^_, min}
 use mathlib.Core.Bool.{cond}
@@ -47,7 +47,7 @@ stored m (Step p i) w b = b
 stored m (Read p k) w b = b
 stored m (Write p k v) w b = over b (p - base) (bytesOf k v)
 stored m (Left p) w b = b
-stored m (Copy p q n) w b = copied b (p - base) (q - base) (copyCount w p q n)
+stored m (Copy p q n) w b = copied b (p - base) b (q - base) (copyCount w p q n)
 stored m (Fill p v n) w b = over b (p - base) (replicate (fillCount w p n) v)
 
 -- What a call leaves: its answer and the state.

@@ -107,6 +107,18 @@ clean-blocks : holdAt
 unfolding holdAt
 clean-blocks = refl
 
+-- Request 3: sixteen distinct bytes are copied up by 1; down by 1, cut short at the end of the block; up by more than half; onto themselves; and not at all.
+rotated : holdAt
+    (answers (Get 16) 0 65536 ∷ answers (Write 65536 4 16909060) 0 0 ∷ answers (Write 65540 4 84281096) 0 0 ∷ answers (Write 65544 4 151653132) 0 0
+    ∷ answers (Write 65548 4 219025168) 0 0 ∷ answers (Copy 65537 65536 15) 0 15
+    ∷ shows 65536 0 (1 ∷ 1 ∷ 2 ∷ 3 ∷ 4 ∷ 5 ∷ 6 ∷ 7 ∷ 8 ∷ 9 ∷ 10 ∷ 11 ∷ 12 ∷ 13 ∷ 14 ∷ 15 ∷ []) ∷ answers (Copy 65536 65537 16) 0 15
+    ∷ shows 65536 0 (1 ∷ 2 ∷ 3 ∷ 4 ∷ 5 ∷ 6 ∷ 7 ∷ 8 ∷ 9 ∷ 10 ∷ 11 ∷ 12 ∷ 13 ∷ 14 ∷ 15 ∷ 15 ∷ []) ∷ answers (Copy 65545 65536 16) 0 7
+    ∷ shows 65536 0 (1 ∷ 2 ∷ 3 ∷ 4 ∷ 5 ∷ 6 ∷ 7 ∷ 8 ∷ 9 ∷ 1 ∷ 2 ∷ 3 ∷ 4 ∷ 5 ∷ 6 ∷ 7 ∷ []) ∷ answers (Copy 65536 65536 16) 0 16 ∷ answers (Copy 65537 65536 0) 0 0
+    ∷ arenaIs ((1 ∷ 2 ∷ 3 ∷ 4 ∷ 5 ∷ 6 ∷ 7 ∷ 8 ∷ 9 ∷ 1 ∷ 2 ∷ 3 ∷ 4 ∷ 5 ∷ 6 ∷ 7 ∷ []) ++ replicate 16 0) ∷ [])
+    (freshHeap 5) ≡ true
+unfolding holdAt
+rotated = refl
+
 -- lengths that are no heap's: 48 bytes, and a table of one entry too many
 wrong-lengths : (holdAt (answers (Get 1) 8 0 ∷ freshens 8 ∷ checks 65536 0 8 0 ∷ shows 65536 8 [] ∷ []) (heapOf (replicate 48 7) (replicate 3 0)) ≡ true) × (holdAt (answers (Left 65536) 8 0 ∷ freshens 8 ∷ []) (heapOf (replicate 32 7) (replicate 3 0)) ≡ true)
 unfolding holdAt

@@ -113,7 +113,7 @@ pub fn left(arena: &[u8], table: &[u8], p: u32) -> Answer
     unchecked::left(arena, table, m, p)
 }
 
-// Copies up to n bytes from q to p, as many as both referents hold, in rising order.
+// Copies up to n bytes from q to p, as many as both referents hold: what stood at q before the call, whichever way the two ranges overlap.
 pub fn copy(arena: &mut [u8], table: &[u8], p: u32, q: u32, n: u32) -> Answer
     ensures { λ r. ⌜ outcome r (now (arena .exit)) (now (table .entry)) ≡ heapCall (Call.Copy p q n) (heapOf (now (arena .entry)) (now (table .entry))) ⌝ }
 {

@@ -4,6 +4,7 @@ pub mod Live
 pub mod Pairs
 pub mod Tables
 pub mod Gets
+pub mod Stores
 pub mod Simulation
 pub mod Runs
 pub mod Checking

@@ -6,15 +6,13 @@ use mathlib.Core.List.{List, [], _∷_, _++_}
 use native.Mathlib.Omega.{arith}
 use lib.Dec.{ltb}
 use lib.IntN.{ℤ, pos, negsuc, natAbs, pos-ne-negsuc}
-use lib.ListN.{length, getD, set, replicate, length-set, length-replicate}
+use lib.ListN.{length}
 use lib.Pow.{pow-pos, pow-mono}
-use borrow.Author.Tests.{ltb-false, le-leb, eqb-true, eq-eqb, not-false}
+use borrow.Author.Tests.{le-leb, eqb-true, eq-eqb, not-false}
 use Rattle.common.specs.Refusals.{Refusal, first}
-use Rattle.common.specs.Bytes.{over, bytesOf, copied}
-use Rattle.common.proofs.Bytes.{length-over, length-bytesOf}
-use Rattle.blocks.specs.Blocks.{base, floor, Block, holds, Aligned, missing, orderIn, leftIn}
+use Rattle.blocks.specs.Blocks.{base, floor, Block, holds, Aligned, missing, orderIn}
 use Rattle.blocks.specs.Tables.{damagedBy, freeIn, referentIn}
-use Rattle.blocks.specs.Sets.{referentOf}
+use Rattle.blocks.specs.Sets.{referentOf, tableOf}
 use Rattle.blocks.specs.Pointers.{markBit, marked, address, sought, referentAt, exactSum, wrappedSum, checkBits, within}
 use Rattle.blocks.specs.declared.Referent.{Referent}
 use Rattle.blocks.specs.declared.Referent.the-variants.{Missing, Found}
@@ -26,7 +24,7 @@ use Rattle.blocks.proofs.Checks.{check-exact}
 use Rattle.blocks.proofs.Slots.{block}
 use Rattle.heap.specs.Views.{View, slotOrder, referentOfPointer}
 use Rattle.heap.specs.Rules.{rules, argumentRules, stateRules, not-start}
-use Rattle.heap.specs.Effects.{copyCount, fillCount, value, stored, cleared, settled, judged}
+use Rattle.heap.specs.Effects.{value, stored, settled, judged}
 use Rattle.heap.specs.Heaps.{Heap, heapOf, insideByCheck, heapView, stamped, entered, heapStep}
 use Rattle.heap.specs.Judging.{Sound}
 use Rattle.heap.specs.declared.Call.{Call}
@@ -34,8 +32,9 @@ use Rattle.heap.specs.declared.Call.the-variants.{Get, Give, Step, Read, Write,
 use Rattle.heap.proofs.Judging.{clear}
 use Rattle.history.specs.Ledgers.{Ledger, ledgerView, without, kept, ledgerStep}
 use Rattle.history.proofs.Agreement.{Proper, Agree, Same}
-use Rattle.history.proofs.Gets.{Placed, got, got-placed}
 use Rattle.history.proofs.Pairs.{holds-by, proper-set, whole, without-in, without-out, without-proper, added-in, added-out, added-proper}
+use Rattle.history.proofs.Gets.{got, got-placed}
+use Rattle.history.proofs.Stores.{stored-length, plain, store}
 use Rattle.history.proofs.Tables.{stamped-table}
 
 -- ---- the two views
@@ -110,115 +109,69 @@ agree-sound m five top h l g =
 
 -- ---- the calls
 
-length-copied : (b : List ℕ) (p q c : ℕ) → length (copied b p q c) ≡ length b
-unfolding copied
-length-copied b p q zero = refl
-length-copied b p q (suc c) = length-copied (set b p (getD b q 0)) (suc p) (suc q) c ∙ length-set b p (getD b q 0)
-
-module _ (m : ℕ) (big : slotOrder ≤ m) (h : Heap) (l : Ledger) (g : Agree m h l) where
+module _ (m : ℕ) (big : slotOrder ≤ m) (l : Ledger) (proper : Proper slotOrder m (l .pairs)) where
   abbrev bs : List Block
   bs = l .pairs
 
-  arena-size : length (l .bytes) ≡ 2 ^ m
-  arena-size = ap length (sym (g .bytes)) ∙ g .size
+  abbrev w : View
+  w = ledgerView l
 
-  -- the part of the referent from p on lies in the arena
-  left-fits : (p : ℕ) (x : Referent) → referentOf bs p ≡ x → missing x ≡ false → (p - base) + leftIn x p ≤ length (l .bytes)
-  left-fits p Missing q k = absurd (false≢true (sym k))
-  left-fits p (Found s e) q k =
-      let a : Aligned slotOrder m (block s e) = found-aligned slotOrder m bs (proper-set (g .proper)) p s e q in
-      let held = found-member bs p s e q .held in
-      let lo : s ≤ p = held-low (block s e) p held in
-      let hi : p < s + 2 ^ e = held-high (block s e) p held in
-      let st : s ≡ base + a .index * 2 ^ e = a .place in
-      let ins : s + 2 ^ e ≤ base + 2 ^ m = a .inside in
-      omega (arith, arena-size)
+  -- the pairs that a call leaves, and their table
+  record Paired (c : Call) : Type 0 where
+    table : entered m c w (tableOf slotOrder m bs) ≡ tableOf slotOrder m (kept m c w bs)
+    still : Proper slotOrder m (kept m c w bs)
 
-  -- a plain pointer's referent is the pair that holds it
-  plain : (p : ℕ) → marked p ≡ false → referentOf bs p ≡ referentOfPointer (ledgerView l) p
-  unfolding sought
-  plain p k = rw k
-
-  -- where the bytes alone change, and alike
-  bytes-agree : (f : List ℕ → List ℕ) → length (f (l .bytes)) ≡ length (l .bytes) → Agree m (heapOf (f (h .arena)) (h .table)) (record { pairs = bs; bytes = f (l .bytes) })
-  bytes-agree f k =
-      let b : f (h .arena) ≡ f (l .bytes) = ap f (g .bytes) in
-      record { bytes = b; size = ap length b ∙ (k ∙ arena-size); table = g .table; proper = g .proper }
-
-  over-agree : (at : ℕ) (xs : List ℕ) → at + length xs ≤ length (l .bytes) → Agree m (heapOf (over (h .arena) at xs) (h .table)) (record { pairs = bs; bytes = over (l .bytes) at xs })
-  over-agree at xs f = bytes-agree (λ b. over b at xs) (length-over (l .bytes) at xs f)
-
-  give-agree : (p : ℕ) (x : Referent) → referentOf bs p ≡ x → missing x ≡ false → not-start x p ≡ false
-      → Agree m (heapOf (h .arena) (stamped (h .table) p (orderIn x) 0)) (record { pairs = without p bs; bytes = l .bytes })
-  give-agree p Missing y k n = absurd (false≢true (sym k))
-  give-agree p (Found s e) y k n =
+  give-table : (p : ℕ) (x : Referent) → referentOf bs p ≡ x → missing x ≡ false → not-start x p ≡ false
+      → stamped (tableOf slotOrder m bs) p (orderIn x) 0 ≡ tableOf slotOrder m (without p bs)
+  give-table p Missing y k n = absurd (false≢true (sym k))
+  give-table p (Found s e) y k n =
       let q : referentOf bs p ≡ Found p e = y ∙ ap (λ (i : ℕ). Found i e) (eqb-true s p (not-false _ n)) in
-      let kept-set = without-proper p (g .proper) in
-      record {
-        bytes = g .bytes;
-        size = g .size;
-        table =
-            ap (λ (x : List ℕ). stamped x p e 0) (g .table)
-            ∙ stamped-table slotOrder m (omega arith) big bs (without p bs) (proper-set (g .proper)) (proper-set kept-set) (block p e) (found-aligned slotOrder m bs (proper-set (g .proper)) p p e q) 0
-            (λ r k. ap orderIn (without-in (g .proper) p e r (whole (g .proper) p e p q r k)))
-            (λ r k.
-            without-out (g .proper) p r
-            (λ o y.
-            let held = found-member bs r p o y .held in
-            let w : referentOf bs p ≡ Found p o = whole (g .proper) p o r y p (holds-by (block p o) p (omega arith) (omega (arith, pow-pos o))) in
-            let z : o ≡ e = cc in
-            false≢true (sym k ∙ subst (λ (x : ℕ). holds (block p x) r ≡ true) z held)));
-        proper = kept-set;
-      }
+      stamped-table slotOrder m (omega arith) big bs (without p bs) (proper-set proper) (proper-set (without-proper p proper)) (block p e)
+      (found-aligned slotOrder m bs (proper-set proper) p p e q) 0
+      (λ r k. ap orderIn (without-in proper p e r (whole proper p e p q r k)))
+      (λ r k.
+      without-out proper p r
+      (λ o y.
+      let held = found-member bs r p o y .held in
+      let v : referentOf bs p ≡ Found p o = whole proper p o r y p (holds-by (block p o) p (omega arith) (omega (arith, pow-pos o))) in
+      let z : o ≡ e = cc in
+      false≢true (sym k ∙ subst (λ (x : ℕ). holds (block p x) r ≡ true) z held)))
 
-  get-agree : (n : ℕ) → first (rules m (Get n) (ledgerView l)) ≡ 0 → let c = got m l n in
-      Agree m (heapOf (cleared (h .arena) (c .start - base) (c .order)) (stamped (h .table) (c .start) (c .order) (c .order)))
-      (record { pairs = bs ++ (c ∷ []); bytes = cleared (l .bytes) (c .start - base) (c .order) })
-  get-agree n k =
-      let c : Block = got m l n in
-      let z : Placed slotOrder m bs c = got-placed m big l (g .proper) n k in
-      let longer : Proper slotOrder m (bs ++ (c ∷ [])) = added-proper c (g .proper) (z .aligned) (z .free) in
-      let zeros : List ℕ = replicate (2 ^ c .order) 0 in
-      let many : length zeros ≡ 2 ^ c .order = length-replicate (2 ^ c .order) 0 in
-      let fit : c .start - base + length zeros ≤ length (l .bytes) = omega (arith, arena-size, z .aligned .place, z .aligned .inside) in
-      let r = over-agree (c .start - base) zeros fit in
+  accepted-paired : (c : Call) → first (rules m c w) ≡ 0 → Paired c
+  unfolding rules argumentRules stateRules entered kept
+  accepted-paired (Get n) z =
+      let b : Block = got m l n in
+      let g = got-placed m big l proper n z in
+      let longer : Proper slotOrder m (bs ++ (b ∷ [])) = added-proper b proper (g .aligned) (g .free) in
       record {
-        bytes = r .bytes;
-        size = r .size;
         table =
-            ap (λ (x : List ℕ). stamped x (c .start) (c .order) (c .order)) (g .table)
-            ∙ stamped-table slotOrder m (omega arith) big bs (bs ++ (c ∷ [])) (proper-set (g .proper)) (proper-set longer) c (z .aligned) (c .order)
-            (λ a x. ap orderIn (added-in bs c a (z .free a x) x))
-            (λ a x. added-out bs c a x);
-        proper = longer;
+            stamped-table slotOrder m (omega arith) big bs (bs ++ (b ∷ [])) (proper-set proper) (proper-set longer) b (g .aligned) (b .order)
+            (λ a x. ap orderIn (added-in bs b a (g .free a x) x))
+            (λ a x. added-out bs b a x);
+        still = longer;
       }
+  accepted-paired (Give p) z =
+      let c = clear (rules m (Give p) w) refl z in
+      record { table = give-table p (referentOfPointer w p) (plain m big l proper p (c 13)) (c 22) (c 23); still = without-proper p proper }
+  accepted-paired (Step p i) z = record { table = refl; still = proper }
+  accepted-paired (Read p k) z = record { table = refl; still = proper }
+  accepted-paired (Write p k v) z = record { table = refl; still = proper }
+  accepted-paired (Left p) z = record { table = refl; still = proper }
+  accepted-paired (Copy p q n) z = record { table = refl; still = proper }
+  accepted-paired (Fill p v n) z = record { table = refl; still = proper }
 
-  -- an accepted call leaves the two in agreement
-  accepted-agree : (c : Call) → first (rules m c (ledgerView l)) ≡ 0
-      → Agree m (heapOf (stored m c (ledgerView l) (h .arena)) (entered m c (ledgerView l) (h .table)))
-      (record { pairs = kept m c (ledgerView l) bs; bytes = stored m c (ledgerView l) (l .bytes) })
-  unfolding rules argumentRules stateRules stored entered kept
-  accepted-agree (Get n) z = get-agree n z
-  accepted-agree (Give p) z =
-      let c = clear (rules m (Give p) (ledgerView l)) refl z in
-      give-agree p (referentOfPointer (ledgerView l) p) (plain p (c 13)) (c 22) (c 23)
-  accepted-agree (Step p i) z = g
-  accepted-agree (Read p k) z = g
-  accepted-agree (Write p k v) z =
-      let c = clear (rules m (Write p k v) (ledgerView l)) refl z in
-      let x : Referent = referentOfPointer (ledgerView l) p in
-      let f : (p - base) + leftIn x p ≤ length (l .bytes) = left-fits p x (plain p (c 13)) (c 22) in
-      let y : k ≤ leftIn x p = ltb-false (leftIn x p) k (c 25) in
-      over-agree (p - base) (bytesOf k v) (omega (arith, length-bytesOf k v))
-  accepted-agree (Left p) z = g
-  accepted-agree (Copy p q n) z =
-      let c : ℕ = copyCount (ledgerView l) p q n in
-      bytes-agree (λ b. copied b (p - base) (q - base) c) (length-copied (l .bytes) (p - base) (q - base) c)
-  accepted-agree (Fill p v n) z =
-      let c = clear (rules m (Fill p v n) (ledgerView l)) refl z in
-      let x : Referent = referentOfPointer (ledgerView l) p in
-      let f : (p - base) + leftIn x p ≤ length (l .bytes) = left-fits p x (plain p (c 13)) (c 22) in
-      over-agree (p - base) (replicate (fillCount (ledgerView l) p n) v) (omega (arith, length-replicate (fillCount (ledgerView l) p n) v))
+-- an accepted call leaves the two in agreement
+accepted-agree : (m : ℕ) → slotOrder ≤ m → (h : Heap) (l : Ledger) → Agree m h l → (c : Call) → first (rules m c (ledgerView l)) ≡ 0
+    → Agree m (heapOf (stored m c (ledgerView l) (h .arena)) (entered m c (ledgerView l) (h .table)))
+    (record { pairs = kept m c (ledgerView l) (l .pairs); bytes = stored m c (ledgerView l) (l .bytes) })
+accepted-agree m big h l g c z =
+    let p = accepted-paired m big l (g .proper) c z in
+    record {
+      bytes = ap (stored m c (ledgerView l)) (g .bytes);
+      size = stored-length (store m big l (g .proper) c z) (h .arena) (g .size);
+      table = ap (entered m c (ledgerView l)) (g .table) ∙ p .table;
+      proper = p .still;
+    }
 
 -- Both judged by one list of refusals, with one value: the rest is that accepted calls agree.
 judged-same : (m : ℕ) (h h′ : Heap) (l l′ : Ledger) → Agree m h l → (rs : List Refusal) (v v′ : ℕ) → v ≡ v′ → (first rs ≡ 0 → Agree m h′ l′) → Same m (judged rs h v h′) (judged rs l v′ l′)

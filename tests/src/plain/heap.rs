@@ -257,23 +257,8 @@ pub fn copy<const KNOWN: bool>(arena: &mut [u8], table: &[u8], p: u32, q: u32, n
     let (to, room) = place(table, p)?;
     let (from, held) = place(table, q)?;
     let count = room.min(held).min(n as usize);
-    copy_rising(arena, to, from, count);
+    arena.copy_within(from..from + count, to);
     Ok(count as u32)
-}
-
-/// Copies in rising order, each byte read after the one before is stored.
-fn copy_rising(arena: &mut [u8], to: usize, from: usize, count: usize) {
-    if from + count <= to {
-        let (low, high) = arena.split_at_mut(to);
-        high[..count].copy_from_slice(&low[from..from + count]);
-    } else if to + count <= from {
-        let (low, high) = arena.split_at_mut(from);
-        low[to..to + count].copy_from_slice(&high[..count]);
-    } else {
-        for k in 0..count {
-            arena[to + k] = arena[from + k];
-        }
-    }
 }
 
 pub fn fill<const KNOWN: bool>(arena: &mut [u8], table: &[u8], p: u32, v: u8, n: u32) -> Outcome {

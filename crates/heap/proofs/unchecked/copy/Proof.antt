@@ -90,8 +90,8 @@ module _ (c : tie.After-copy) where
   abbrev whole : List ℕ
   whole = bytes (start at-count)
 
-  moved : c .copy .last .0 ≡ copied whole (start at-count .args .p - base) (start at-count .args .q - base) (count at-count)
-  moved = c .copy .ensures ∙ ap₂ (λ (x y : ℕ). copied whole x y (count at-count)) (c .before .before .offset .ensures) (c .before .offset2 .ensures)
+  moved : c .copy .last .0 ≡ copied whole (start at-count .args .p - base) whole (start at-count .args .q - base) (count at-count)
+  moved = c .copy .ensures ∙ ap₂ (λ (x y : ℕ). copied whole x whole y (count at-count)) (c .before .before .offset .ensures) (c .before .offset2 .ensures)
 
 referent-of-requires : tie.Need-referent-of-requires
 referent-of-requires c κs = search needs
