@@ -5,7 +5,7 @@ ghost use lib.ListN.{length, replicate};
 ghost use Rattle.common.specs.Bytes.{bigEndian, bytesOf, over, copied};
 
 // How many bytes a copy reads before it stores them. The compiler makes one memmove of the two loops over a chunk and leaves out the array
-// between them; with smaller chunks the calls of memmove begin to cost.
+// between them. Copies of 32 KiB by smaller chunks measured slower.
 const CHUNK: usize = 16384;
 
 fn wide(x: u8) -> u32
