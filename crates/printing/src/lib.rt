@@ -1,8 +1,14 @@
 // What a program that runs takes prints: document 01's lines.
 use libc::STDOUT_FILENO;
+use runner::Ran;
 ghost use mathlib.Core.Path.{_≡_};
-ghost use Prim.Native.Nat.{_+_, _*_, _≤_};
+ghost use Prim.Native.Nat.{_+_, _*_, _^_, _≤_};
 ghost use lib.ListN.{length};
+ghost use Rattle.takes.specs.Files.{sizeByte, fileNumber};
+ghost use Rattle.heap.specs.Heaps.{heapOf};
+ghost use Rattle.runner.specs.Runs.{runOf};
+ghost use Rattle.runner.specs.Carrying.{ranTo};
+ghost use Rattle.printing.specs.Fitting.{Fitting};
 
 fn print(text: &[u8]) {
     io::write_all(STDOUT_FILENO, text);
@@ -51,6 +57,7 @@ fn print_answers(answers: &[u8], count: u32)
 // The arena's length by the file's size byte. A file that has no such byte is refused, whatever the length.
 fn size_for(file: &[u8]) -> usize
     ensures { λ r. ⌜ r ≤ 65536 ⌝ }
+    ensures { λ r. ⌜ (fileNumber (now (file .entry)) ≡ 0 → r ≡ 2 ^ sizeByte (now (file .entry))) ⌝ }
 {
     if file.len() < 2 {
         return 0;
@@ -62,14 +69,27 @@ fn size_for(file: &[u8]) -> usize
     blocks::size_of(m as u32) as usize
 }
 
-// Runs a take and prints its lines. Arena, table and answers fit any accepted file: it has at most 2,730 records, of three bytes or more.
+// The run of an upload, on memory that fits its file: so it is refused by the file alone, 1 to 7, never by a length, 8 or 9.
+fn run_in(file: &[u8], arena: &mut [u8], table: &mut [u8], answers: &mut [u8]) -> Ran
+    requires { ⌜ Fitting (now file) (now arena) (now table) (now answers) ⌝ }
+    ensures { λ r. ⌜ ranTo r (now (arena .exit)) (now (table .exit)) (now (answers .exit))
+        ≡ runOf (now (file .entry)) (heapOf (now (arena .entry)) (now (table .entry))) (now (answers .entry)) ⌝ }
+    ensures { λ r. ⌜ r .number ≡ fileNumber (now (file .entry)) ⌝ }
+{
+    runner::run(file, arena, table, answers)
+}
+
+// Five bytes for each of 4,095 records: no file has more.
+const ANSWERS: usize = 20475;
+
+// Runs a take and prints its lines.
 pub fn play(file: &[u8]) {
     let mut arena = io::large_buffer();
     let mut table = io::buffer();
-    let mut answers = [0u8; 13650];
+    let mut answers = [0u8; ANSWERS];
     let size = size_for(file);
     let slots = size / 16;
-    let ran = runner::run(file, &mut arena[..size], &mut table[..slots], &mut answers);
+    let ran = run_in(file, &mut arena[..size], &mut table[..slots], &mut answers);
     let number = ran.number;
     if number != 0 {
         print_pair(b"refused", number as u64);

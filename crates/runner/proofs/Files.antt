@@ -1,17 +1,16 @@
 -- What an accepted file is known to have, and how many records at most.
-use Prim.Native.Nat.{ℕ, zero, suc, _≤_}
+use Prim.Native.Nat.{ℕ, _≤_}
 use mathlib.Core.Path.{_≡_, refl}
 use mathlib.Core.Bool.{Bool, true, false, not, cond}
 use mathlib.Core.List.{List}
-use mathlib.Core.Option.{Option, none, some}
 use native.Mathlib.Omega.{arith}
-use lib.Dec.{eqb, ltb}
+use lib.Dec.{eqb}
 use lib.ListN.{length}
 use borrow.Author.Tests.{eqb-true, eqb-false}
-use Rattle.takes.specs.Reading.{Given, readAt}
-use Rattle.takes.specs.Files.{Walk, turn, walk, walkFrom, headLength, headNumber, recordsNumber, fileNumber}
-use Rattle.takes.specs.declared.Record.{Record}
+use Rattle.takes.specs.Files.{walkFrom, headLength, headNumber, recordsNumber, fileNumber, recordsOf}
+use Rattle.takes.proofs.Walks.{from-spans}
 use Rattle.takes.proofs.Judging.{Head, head-accepted}
+use Rattle.runner.specs.Carrying.{mostRecords}
 
 -- a refusal that does not apply, and one whose number is 0
 pub clear : (n : ℕ) (b : Bool) (rest : ℕ) → (n ≡ 0 → ⊥) → cond b n rest ≡ 0 → (b ≡ false) × (rest ≡ 0)
@@ -35,14 +34,8 @@ accepted-file file e =
     let both = unless (headNumber file) (cond (not (eqb (recordsNumber file) 0)) (recordsNumber file) 0) e in
     record { head = head-accepted file (both .0); records = unless (recordsNumber file) 0 (both .1) .0 }
 
--- no more records than steps
-pub few : (file : List ℕ) (s at : ℕ) → length (walk s file at .records) ≤ s
-unfolding walk
-few file zero at = omega arith
-few file (suc s) at = go (few file s (readAt file at .next)) (ltb at (length file)) (readAt file at .found)
-  where
-    go : length (walk s file (readAt file at .next) .records) ≤ s → (b : Bool) (o : Option Record)
-        → length (turn b (walk s file) (record { number = readAt file at .number; found = o; next = readAt file at .next }) .records) ≤ suc s
-    go h false o = omega arith
-    go h true none = omega arith
-    go h true (some r) = omega arith
+pub few-records : (file : List ℕ) → fileNumber file ≡ 0 → length (recordsOf file) ≤ mostRecords
+unfolding recordsOf
+few-records file e =
+    let h = accepted-file file e .head in
+    omega (arith, from-spans file headLength (h .both), h .short)

@@ -8,15 +8,15 @@ use lib.Dec.{eqb, ltb}
 use lib.ListN.{length}
 use borrow.Author.Tests.{eqb-true, eqb-false, eq-eqb, ne-eqb, lt-ltb, le-ltb, ltb-false}
 use Rattle.common.specs.Refusals.{first}
-use Rattle.takes.specs.Files.{headLength, longest, sizeByte, fileNumber, recordsOf, judgement}
+use Rattle.takes.specs.Files.{sizeByte, fileNumber, recordsOf, judgement}
 use Rattle.takes.specs.declared.Judgement.{Judgement}
 use Rattle.heap.specs.Views.{slotOrder}
 use Rattle.heap.specs.Heaps.{Heap, heapOf}
 use Rattle.runner.specs.Registers.{registersAtFirst}
 use Rattle.runner.specs.Runs.{RunOutcome, screenful, crowded, runRules, runSettled, runBy, runOf}
-use Rattle.runner.specs.Carrying.{State, stateOf, atFirst, allRecords, Runnable, ranTo}
+use Rattle.runner.specs.Carrying.{State, stateOf, atFirst, allRecords, Runnable, mostRecords, ranTo}
 use Rattle.runner.specs.declared.Ran.{Ran}
-use Rattle.runner.proofs.Files.{clear, unless, accepted-file, few}
+use Rattle.runner.proofs.Files.{clear, unless, few-records}
 
 pub judge-refused : (file : List ℕ) (j : Judgement) → j ≡ judgement file → (j .number ≡ 0 → ⊥) → fileNumber file ≡ j .number
 judge-refused file j e d = go (eqb (fileNumber file) 0) e
@@ -46,11 +46,6 @@ judge-accepted file j e z = go (eqb (fileNumber file) 0) refl e
           count = sym (ap (λ (j : Judgement). j .count) e);
         }
     go false q e = absurd (eqb-false (fileNumber file) 0 q (sym (ap (λ (j : Judgement). j .number) e) ∙ z))
-
--- no more records than bytes
-pub count-short : (file : List ℕ) (j : Judgement) → Judged file j → j .count ≤ longest
-unfolding recordsOf
-count-short file j g = omega (arith, few file (length file) headLength, accepted-file file (g .judged) .head .short, g .count)
 
 -- the panel's own rule, by the two tests that the code makes of it, n being the count of the records
 module _ (panel : Bool) (file : List ℕ) where
@@ -132,3 +127,23 @@ ran-room file out h r a t out′ e z = go (first (runRules false file h out)) re
         let four = clear 9 short 0 (λ z. omega arith) (three .1) in
         omega (arith, ltb-false (length out) (5 * length (recordsOf file)) (four .0), ap (λ (o : RunOutcome). o .count) e)
     go (suc k) q e = absurd (omega (arith, ap (λ (o : RunOutcome). o .number) e))
+
+settled-number : (k : ℕ) (file : List ℕ) (h : Heap) (out : List ℕ) → runSettled k file h out .number ≡ k
+settled-number zero file h out = refl
+settled-number (suc k) file h out = refl
+
+-- an upload on memory that fits its file is refused by the file alone
+module _ (file a t out : List ℕ) (p : fileNumber file ≡ 0 → length a ≡ 2 ^ sizeByte file)
+    (q : fileNumber file ≡ 0 → length t ≡ 2 ^ (sizeByte file - slotOrder)) (l : 5 * mostRecords ≤ length out) where
+  first-is : number false file a t out ≡ fileNumber file
+  first-is = go (eqb (fileNumber file) 0) refl
+    where
+      go : (b : Bool) → eqb (fileNumber file) 0 ≡ b → number false file a t out ≡ fileNumber file
+      go true e =
+          let z : fileNumber file ≡ 0 = eqb-true (fileNumber file) 0 e in
+          by-none false file a t out z refl (p z) (q z) (omega (arith, few-records file z)) ∙ sym z
+      go false e = rw e
+
+  pub ran-number : (r : Ran) (a′ t′ out′ : List ℕ) → ranTo r a′ t′ out′ ≡ runOf file (heapOf a t) out → r .number ≡ fileNumber file
+  unfolding runBy
+  ran-number r a′ t′ out′ e = ap (λ (o : RunOutcome). o .number) e ∙ (settled-number (number false file a t out) file (heapOf a t) out ∙ first-is)

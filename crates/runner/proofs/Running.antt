@@ -1,13 +1,15 @@
 -- Where a run stands between two records, from the fresh heap to the end of the file.
-use Prim.Native.Nat.{ℕ, suc, _+_, _-_, _*_, _≤_, _<_}
+use Prim.Native.Nat.{ℕ, suc, _+_, _*_, _≤_, _<_}
 use mathlib.Core.Path.{_≡_, refl, sym, _∙_, ap, ap₂, subst}
 use mathlib.Core.List.{List}
+use mathlib.Core.Option.{some}
 use native.Mathlib.Omega.{arith}
-use lib.ListN.{length}
-use Rattle.takes.specs.Reading.{accepted, refused, readAt}
+use lib.ListN.{length, drop}
+use Rattle.takes.specs.Reading.{readAt}
 use Rattle.takes.specs.Files.{Walk, ended, before, walkFrom, headLength, recordsOf}
 use Rattle.takes.specs.declared.Record.{Record}
-use Rattle.takes.proofs.Walks.{found-next, from-end, from-refused, refused-number}
+use Rattle.takes.proofs.Walks.{Next, found-next, from-end, accepted-here}
+use Rattle.takes.proofs.RoundTrips.{read-low}
 use Rattle.heap.specs.Effects.{Outcome}
 use Rattle.heap.specs.Heaps.{Heap, heapOf, heapFresh, freshHeap, outcome}
 use Rattle.heap.specs.Judging.{Sound}
@@ -17,9 +19,9 @@ use Rattle.history.proofs.Agreement.{Agree}
 use Rattle.history.proofs.Simulation.{agree-sound}
 use Rattle.history.proofs.Runs.{fresh-agree, fresh-made, call-same}
 use Rattle.runner.specs.Registers.{registersAtFirst, callOf}
-use Rattle.runner.specs.Carrying.{State, stateOf, atFirst, oneRecord, allRecords, Runnable}
+use Rattle.runner.specs.Carrying.{State, stateOf, atFirst, oneRecord, allRecords, Runnable, operandsOf}
 use Rattle.runner.proofs.Files.{accepted-file}
-use Rattle.runner.proofs.Records.{all-next, all-none}
+use Rattle.runner.proofs.Records.{all-next, all-none, low-registers}
 
 -- a heap that some ledger agrees with: what a list of calls from a fresh heap leaves
 pub record Kept (m : ℕ) (h : Heap) : Type 0 where
@@ -33,6 +35,7 @@ pub record Going (m : ℕ) (file out₀ a t rs out : List ℕ) (at place : ℕ) 
   pub kept : Kept m (heapOf a t)
   pub good : walkFrom file at .number ≡ 0
   pub room : place + 5 * length (walkFrom file at .records) ≤ length out
+  pub sixteen : length rs ≡ 16
   pub same : length out ≡ length out₀
   pub rest : allRecords (walkFrom file at .records) place (stateOf a t rs out) ≡ allRecords (recordsOf file) 0 (atFirst m out₀)
 
@@ -50,6 +53,7 @@ going-start m file a t out a′ t′ rs x r e z =
       kept = subst (Kept m) (sym h) (record { ledger = emptyLedger m; agree = fresh-agree m });
       good = f .records;
       room = omega (arith, r .room);
+      sixteen = ap length z;
       same = refl;
       rest = ap₂ (λ (h : Heap) (l : List ℕ). allRecords (walkFrom file headLength .records) 0 (record { heap = h; registers = l; answers = out })) h z;
     }
@@ -64,32 +68,43 @@ module _ {m : ℕ} {file out₀ a t rs out : List ℕ} {at place : ℕ} (g : Goi
       let e : walkFrom file at ≡ ended 0 = from-end file at h in
       sym (ap (λ (w : Walk). allRecords (w .records) place (stateOf a t rs out)) e ∙ all-none place (stateOf a t rs out)) ∙ g .rest
 
-  pub going-refused {ℓ} : {X : Type ℓ} → at < length file → (n : ℕ) → refused n ≡ readAt file at → X
-  going-refused h n e = absurd (refused-number file at n e (sym (ap (λ (w : Walk). w .number) (from-refused file at n h (sym e))) ∙ g .good))
+  -- the record that comes next is good
+  module _ (more : at < length file) where
+    pub going-good : readAt file at .number ≡ 0
+    going-good = accepted-here file at (g .good) more
 
-  module _ (r : Record) (next : ℕ) (e : accepted r next ≡ readAt file at) where
-    to-come : walkFrom file at ≡ before r (walkFrom file next)
-    to-come = found-next file at r next e .to-come
+    module _ (r : Record) (next : ℕ) (p : some r ≡ readAt file at .found) (q : next ≡ readAt file at .next) where
+      found : Next file at r next
+      found = found-next file at going-good r next p q
 
-    pub going-further : at < next
-    going-further = omega (arith, found-next file at r next e .beyond)
+      to-come : walkFrom file at ≡ before r (walkFrom file next)
+      to-come = found .to-come
 
-    pub going-room : place + 5 * suc (length (walkFrom file next .records)) ≤ length out
-    going-room = rw to-come at (g .room)
+      pub going-further : at < next
+      going-further = omega (arith, found .beyond)
 
-    pub going-step : (a′ t′ rs′ out′ : List ℕ) → stateOf a′ t′ rs′ out′ ≡ oneRecord r place (stateOf a t rs out) → length out′ ≡ length out
-        → Going m file out₀ a′ t′ rs′ out′ next (place + 5)
-    going-step a′ t′ rs′ out′ q l =
-        let s = call-same m (g .low) (g .high) (heapOf a t) (g .kept .ledger) (g .kept .agree) (callOf rs r) in
-        record {
-          low = g .low;
-          high = g .high;
-          kept = subst (Kept m) (sym (ap (λ (s : State). s .heap) q)) (record { ledger = ledgerStep m (callOf rs r) (g .kept .ledger) .state; agree = s .agree });
-          good = sym (ap (λ (w : Walk). w .number) to-come) ∙ g .good;
-          room = omega (arith, going-room);
-          same = l ∙ g .same;
-          rest =
-              ap (allRecords (walkFrom file next .records) (place + 5)) q
-              ∙ (sym (all-next r (walkFrom file next .records) place (stateOf a t rs out) (omega (arith, going-room)))
-              ∙ (sym (ap (λ (w : Walk). allRecords (w .records) place (stateOf a t rs out)) to-come) ∙ g .rest));
-        }
+      pub going-low : (operandsOf r .a ≤ 15) × (operandsOf r .b ≤ 15)
+      going-low = low-registers r (rw (found .the-record) (read-low (drop at file) (found .whole)))
+
+      pub going-room : place + 5 * suc (length (walkFrom file next .records)) ≤ length out
+      going-room = rw to-come at (g .room)
+
+      pub going-step : (a′ t′ rs′ out′ : List ℕ) → stateOf a′ t′ rs′ out′ ≡ oneRecord r place (stateOf a t rs out)
+          → length rs′ ≡ length rs → length out′ ≡ length out → Going m file out₀ a′ t′ rs′ out′ next (place + 5)
+      going-step a′ t′ rs′ out′ q k l =
+          let s = call-same m (g .low) (g .high) (heapOf a t) (g .kept .ledger) (g .kept .agree) (callOf rs r) in
+          record {
+            low = g .low;
+            high = g .high;
+            kept = subst (Kept m) (sym (ap (λ (s : State). s .heap) q))
+                (record { ledger = ledgerStep m (callOf rs r) (g .kept .ledger) .state; agree = s .agree });
+            good = sym (ap (λ (w : Walk). w .number) to-come) ∙ g .good;
+            room = omega (arith, going-room);
+            sixteen = k ∙ g .sixteen;
+            same = l ∙ g .same;
+            rest =
+                ap (allRecords (walkFrom file next .records) (place + 5)) q
+                ∙ (sym (all-next r (walkFrom file next .records) place (stateOf a t rs out) (omega (arith, going-room)))
+                ∙ (sym (ap (λ (w : Walk). allRecords (w .records) place (stateOf a t rs out)) to-come)
+                ∙ g .rest));
+          }

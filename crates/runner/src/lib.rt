@@ -1,16 +1,18 @@
 // Runs a take: its file is judged, the heap made fresh, and each record carried out with sixteen registers.
+use heap::Answer;
+use heap::Call;
 use registers::Registers;
-use takes::Reading;
-use takes::Record;
 ghost use mathlib.Core.Path.{_≡_};
 ghost use Prim.Native.Nat.{_+_, _≤_};
 ghost use lib.ListN.{length};
-ghost use Rattle.heap.specs.Heaps.{heapOf};
+ghost use Rattle.common.specs.Bytes.{over};
+ghost use Rattle.heap.specs.Heaps.{heapOf, heapStep, outcome};
+ghost use Rattle.heap.specs.Answers.{answerBytes};
 ghost use Rattle.heap.specs.Judging.{Sound};
 ghost use Rattle.takes.specs.Files.{recordsOf};
 ghost use Rattle.runner.specs.Registers.{registersAtFirst};
 ghost use Rattle.runner.specs.Runs.{screenful, runBy, runOf, panelOf};
-ghost use Rattle.runner.specs.Carrying.{stateOf, atFirst, oneRecord, allRecords, Runnable, ranTo};
+ghost use Rattle.runner.specs.Carrying.{stateOf, atFirst, allRecords, Runnable, ranTo};
 
 pub mod registers;
 
@@ -38,26 +40,26 @@ fn refused(number: u32) -> Ran
     }
 }
 
-// One record: its call, its answer in five bytes from `place` on, its value in a register.
+// One call, its answer in five bytes from `place` on.
 fn carry_out_one(
     arena: &mut [u8],
     table: &mut [u8],
     answers: &mut [u8],
     place: usize,
     m: u32,
-    registers: Registers,
-    item: Record,
-) -> Registers
+    c: Call,
+) -> Answer
     requires { ⌜ Sound m (now arena) (now table) ⌝ }
     requires { ⌜ place + 5 ≤ length (now answers) ⌝ }
-    ensures { λ r. ⌜ stateOf (now (arena .exit)) (now (table .exit)) (r .values) (now (answers .exit)) ≡ oneRecord item place (stateOf (now (arena .entry)) (now (table .entry)) (registers .values) (now (answers .entry))) ⌝ }
+    ensures { λ r. ⌜ outcome r (now (arena .exit)) (now (table .exit)) ≡ heapStep m c (heapOf (now (arena .entry)) (now (table .entry))) ⌝ }
+    ensures { λ r. ⌜ now (answers .exit) ≡ over (now (answers .entry)) place (answerBytes r) ⌝ }
 {
-    let answer = heap::unchecked::call(arena, table, m, registers::call_of(registers, item));
+    let answer = heap::unchecked::call(arena, table, m, c);
     heap::answers::store(answers, place, answer);
-    registers::after(registers, item, answer)
+    answer
 }
 
-// Makes the heap fresh and carries out the records of a file that was judged. They are read again, one at a time.
+// Makes the heap fresh and carries out the records of a file that was judged. They are read one at a time, and judged no more.
 fn carry_out(
     file: &[u8],
     arena: &mut [u8],
@@ -73,17 +75,24 @@ fn carry_out(
     let mut at = HEAD;
     let mut place = 0usize;
     while at < file.len() {
-        let reading = takes::read(file, at);
-        match reading {
-            Reading::Found(item, next) => {
-                registers = carry_out_one(arena, table, answers, place, m, registers, item);
-                at = next;
-                place += 5;
-            }
-            // never: the file was judged
-            Reading::Refused(_) => {
-                return registers;
-            }
+        let item = takes::unchecked::read(file, at);
+        let next = takes::unchecked::next(file, at);
+        let named = registers::operands_of(item);
+        let p = registers.values[named.a as usize];
+        let q = registers.values[named.b as usize];
+        let answer = carry_out_one(
+            arena,
+            table,
+            answers,
+            place,
+            m,
+            registers::call_with(item, p, q),
+        );
+        at = next;
+        place += 5;
+        let d = registers::stored_in(named.d, answer);
+        if d < 16 {
+            registers.values[d] = answer.value;
         }
     }
     registers

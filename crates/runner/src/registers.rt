@@ -1,10 +1,11 @@
-// The sixteen registers of a run, and what a record takes from them and puts back.
+// The sixteen registers of a run, and which of them a record takes from and puts to.
 use heap::Answer;
 use heap::Call;
 use takes::Record;
 ghost use mathlib.Core.Path.{_≡_};
 ghost use lib.ListN.{set};
-ghost use Rattle.runner.specs.Registers.{registersAtFirst, held, callOf, registersAfter, putTo, putNumber, putIn};
+ghost use Rattle.runner.specs.Registers.{registersAtFirst, putTo, putNumber, putIn};
+ghost use Rattle.runner.specs.Carrying.{operandsOf, callWith, storedIn};
 
 #[repr(C)]
 pub struct Registers {
@@ -23,14 +24,6 @@ fn index(x: u8) -> usize
     x as usize
 }
 
-// What register a holds.
-fn value_in(registers: Registers, a: u8) -> u32
-    ensures { λ v. ⌜ v ≡ held (registers .values) a ⌝ }
-{
-    let i = index(a);
-    if i < 16 { registers.values[i] } else { 0 }
-}
-
 // The registers with v in d.
 fn with_value(registers: Registers, d: u8, v: u32) -> Registers
     ensures { λ r. ⌜ r .values ≡ set (registers .values) d v ⌝ }
@@ -43,41 +36,50 @@ fn with_value(registers: Registers, d: u8, v: u32) -> Registers
     next
 }
 
-// The call that a record makes: its pointers are the values in its registers.
-pub fn call_of(registers: Registers, item: Record) -> Call
-    ensures { λ c. ⌜ c ≡ callOf (registers .values) item ⌝ }
+// The registers of a record: a and b, whose values are its call's p and q, 0 where it has none, and d, which its value goes to, 16 where it has none.
+pub struct Operands {
+    pub a: u8,
+    pub b: u8,
+    pub d: u8,
+}
+
+pub fn operands_of(item: Record) -> Operands
+    ensures { λ r. ⌜ r ≡ operandsOf item ⌝ }
 {
     match item {
-        Record::Get(_, n) => Call::Get(n),
-        Record::Give(a) => Call::Give(value_in(registers, a)),
-        Record::Step(_, a, i) => Call::Step(value_in(registers, a), i),
-        Record::Read(_, a, w) => Call::Read(value_in(registers, a), w),
-        Record::Write(a, w, v) => Call::Write(value_in(registers, a), w, v),
-        Record::Left(_, a) => Call::Left(value_in(registers, a)),
-        Record::Copy(_, a, b, n) => Call::Copy(value_in(registers, a), value_in(registers, b), n),
-        Record::Fill(_, a, v, n) => Call::Fill(value_in(registers, a), v, n),
+        Record::Get(d, _) => Operands { a: 0, b: 0, d },
+        Record::Give(a) => Operands { a, b: 0, d: 16 },
+        Record::Step(d, a, _) => Operands { a, b: 0, d },
+        Record::Read(d, a, _) => Operands { a, b: 0, d },
+        Record::Write(a, _, _) => Operands { a, b: 0, d: 16 },
+        Record::Left(d, a) => Operands { a, b: 0, d },
+        Record::Copy(d, a, b, _) => Operands { a, b, d },
+        Record::Fill(d, a, _, _) => Operands { a, b: 0, d },
     }
 }
 
-// The registers after a record with this answer: its value in d, unless it was refused.
-pub fn after(registers: Registers, item: Record, answer: Answer) -> Registers
-    ensures { λ r. ⌜ r .values ≡ registersAfter item answer (registers .values) ⌝ }
+// The call that a record makes, p and q being the values in its registers a and b.
+pub fn call_with(item: Record, p: u32, q: u32) -> Call
+    ensures { λ c. ⌜ c ≡ callWith p q item ⌝ }
+{
+    match item {
+        Record::Get(_, n) => Call::Get(n),
+        Record::Give(_) => Call::Give(p),
+        Record::Step(_, _, i) => Call::Step(p, i),
+        Record::Read(_, _, w) => Call::Read(p, w),
+        Record::Write(_, w, v) => Call::Write(p, w, v),
+        Record::Left(_, _) => Call::Left(p),
+        Record::Copy(_, _, _, n) => Call::Copy(p, q, n),
+        Record::Fill(_, _, v, n) => Call::Fill(p, v, n),
+    }
+}
+
+// The register that the value of a record with this answer goes to: its d, or 16, which is none, where it was refused.
+pub fn stored_in(d: u8, answer: Answer) -> usize
+    ensures { λ r. ⌜ r ≡ storedIn d answer ⌝ }
 {
     let number = answer.number;
-    if number != 0 {
-        return registers;
-    }
-    let v = answer.value;
-    match item {
-        Record::Get(d, _) => with_value(registers, d, v),
-        Record::Give(_) => registers,
-        Record::Step(d, _, _) => with_value(registers, d, v),
-        Record::Read(d, _, _) => with_value(registers, d, v),
-        Record::Write(_, _, _) => registers,
-        Record::Left(d, _) => with_value(registers, d, v),
-        Record::Copy(d, _, _, _) => with_value(registers, d, v),
-        Record::Fill(d, _, _, _) => with_value(registers, d, v),
-    }
+    if number == 0 { index(d) } else { 16 }
 }
 
 // 7 where there is no register d, else 0.

@@ -1,151 +1,58 @@
--- Fields one after the other: what stands at column k of a row, by the number of its kind.
+-- Fields one after the other: where each stands, and that they are written and read back.
 use Prim.Native.Nat.{ℕ, zero, suc, _+_, _^_, _≤_, _<_}
 use mathlib.Core.Path.{_≡_, refl, sym, _∙_, ap, ap₂}
-use mathlib.Core.Bool.{Bool, true, false, cond, _||_}
-use mathlib.Core.List.{List, [], _∷_, _++_, map, append-assoc}
+use mathlib.Core.Bool.{Bool, true, false, false≢true, _||_}
+use mathlib.Core.List.{List, [], _∷_, _++_, append-assoc}
 use native.Mathlib.Omega.{arith}
-use native.Mathlib.Numerals.{add-one}
-use lib.Dec.{eqb}
-use lib.ListN.{length, getD, take, drop, length-append, length-drop, drop-of-length-le}
-use lib.Seq.{drop-nil, drop-at, take-add}
-use borrow.Author.Tests.{le-ltb}
-use Rattle.common.specs.Bytes.{bigEndian, bytesOf, over}
-use Rattle.common.proofs.Bytes.{over-none, over-append, length-bytesOf}
-use Rattle.takes.specs.Operations.{Kind, register, byte, word, kindsOf, size, sizes}
+use native.Mathlib.Nat.{add-zero}
+use lib.ListN.{length, getD, take, drop, length-drop}
+use lib.Seq.{drop-at, take-add}
+use lib.Dec.{ltb}
+use borrow.Author.Tests.{le-ltb, ltb-false}
+use Rattle.common.specs.Bytes.{bigEndian, bytesOf}
+use Rattle.common.proofs.Bytes.{length-bytesOf}
+use Rattle.takes.specs.Operations.{Kind, register, byte, word, size, sizes}
 use Rattle.takes.specs.Reading.{values, above15, highRegister}
 use Rattle.takes.specs.Writing.{valueBytes}
-use Rattle.takes.specs.Table.{code, kindAt, sizeAt, highAt}
 use Rattle.takes.specs.RoundTrips.{Fits, AllFit, Bytes}
-use Rattle.takes.proofs.Numbers.{bytes-drop, number-drop, number-small, number-forth, number-back}
+use Rattle.takes.proofs.Numbers.{bytes-drop, number-drop, number-forth, number-back}
 
--- the number of the kind at column k
-abbrev pub codeAt : List Kind → ℕ → ℕ
-codeAt ks k = getD (map code ks) k 0
+pub or-left : (a b : Bool) → (a || b) ≡ false → a ≡ false
+or-left true b h = h
+or-left false b h = refl
 
-size-code : (κ : Kind) → sizeAt (code κ) ≡ size κ
-size-code register = refl
-size-code byte = refl
-size-code word = refl
+pub or-right : (a b : Bool) → (a || b) ≡ false → b ≡ false
+or-right true b h = absurd (false≢true (sym h))
+or-right false b h = h
 
-high-code : (κ : Kind) (v : ℕ) → highAt (code κ) v ≡ above15 κ v
-high-code register v = refl
-high-code byte v = refl
-high-code word v = refl
+-- where the field k starts, and what it is: the number that stands there
+abbrev pub start : List Kind → ℕ → ℕ
+start ks k = sizes (take k ks)
 
-pub size-few : (c : ℕ) → sizeAt c ≤ 4
-size-few c = go (eqb c 0) (eqb c 3)
-  where
-    go : (a b : Bool) → cond a 0 (cond b 4 1) ≤ 4
-    go true b = omega arith
-    go false true = omega arith
-    go false false = omega arith
+abbrev pub sizeOf : List Kind → ℕ → ℕ
+sizeOf ks k = sizes (take 1 (drop k ks))
 
--- where the field after column k starts
-sizes-more : (ks : List Kind) (k : ℕ) → sizes (take (suc k) ks) ≡ sizes (take k ks) + sizeAt (codeAt ks k)
-sizes-more [] zero = refl
-sizes-more [] (suc k) = refl
-sizes-more (κ ∷ ks) zero = omega (arith, size-code κ)
-sizes-more (κ ∷ ks) (suc k) = omega (arith, sizes-more ks k)
-
--- the bytes from column k on
-sizes-here : (ks : List Kind) (k : ℕ) → sizes (drop k ks) ≡ sizeAt (codeAt ks k) + sizes (drop (suc k) ks)
-sizes-here [] zero = refl
-sizes-here [] (suc k) = refl
-sizes-here (κ ∷ ks) zero = omega (arith, size-code κ)
-sizes-here (κ ∷ ks) (suc k) = sizes-here ks k
-
-sizes-split : (ks : List Kind) (k : ℕ) → sizes (take k ks) + sizes (drop k ks) ≡ sizes ks
-sizes-split [] zero = refl
-sizes-split [] (suc k) = refl
-sizes-split (κ ∷ ks) zero = omega arith
-sizes-split (κ ∷ ks) (suc k) = omega (arith, sizes-split ks k)
-
-value-at : (ks : List Kind) (bs : List ℕ) (k : ℕ) → getD (values ks bs) k 0 ≡ bigEndian bs (sizes (take k ks)) (sizeAt (codeAt ks k))
+value-at : (ks : List Kind) (bs : List ℕ) (k : ℕ) → getD (values ks bs) k 0 ≡ bigEndian bs (start ks k) (sizeOf ks k)
 unfolding bigEndian
 value-at [] bs zero = refl
 value-at [] bs (suc k) = refl
-value-at (κ ∷ ks) bs zero = ap (bigEndian bs 0) (sym (size-code κ))
-value-at (κ ∷ ks) bs (suc k) = value-at ks (drop (size κ) bs) k ∙ number-drop (size κ) (sizes (take k ks)) (sizeAt (codeAt ks k)) bs
+value-at (κ ∷ ks) bs zero = ap (bigEndian bs 0) (sym (add-zero (size κ)))
+value-at (κ ∷ ks) bs (suc k) = value-at ks (drop (size κ) bs) k ∙ number-drop (size κ) (start ks k) (sizeOf ks k) bs
 
-high-more : (ks : List Kind) (vs : List ℕ) (k : ℕ)
-    → highRegister (drop k ks) (drop k vs) ≡ (highAt (codeAt ks k) (getD vs k 0) || highRegister (drop (suc k) ks) (drop (suc k) vs))
-high-more [] vs zero = refl
-high-more [] vs (suc k) = refl
-high-more (κ ∷ ks) [] zero = none κ ks
-  where
-    none : (κ : Kind) (ks : List Kind) → false ≡ (highAt (code κ) 0 || highRegister ks [])
-    none register [] = refl
-    none register (x ∷ ks) = refl
-    none byte [] = refl
-    none byte (x ∷ ks) = refl
-    none word [] = refl
-    none word (x ∷ ks) = refl
-high-more (κ ∷ ks) (v ∷ vs) zero = ap (λ (b : Bool). b || highRegister ks vs) (sym (high-code κ v))
-high-more (κ ∷ ks) [] (suc k) = ap (highRegister (drop k ks)) (sym (drop-nil k)) ∙ high-more ks [] k
-high-more (κ ∷ ks) (v ∷ vs) (suc k) = high-more ks vs k
+pub number-one : (s : List ℕ) (at : ℕ) → bigEndian s at 1 ≡ getD s at 0
+unfolding bigEndian
+number-one s at = let e : getD s (at + 0) 0 ≡ getD s at 0 = ap (λ (n : ℕ). getD s n 0) (add-zero at) in omega arith
 
-bytes-more : (ks : List Kind) (vs : List ℕ) (k : ℕ) → k < length vs
-    → valueBytes (drop k ks) (drop k vs) ≡ bytesOf (sizeAt (codeAt ks k)) (getD vs k 0) ++ valueBytes (drop (suc k) ks) (drop (suc k) vs)
-unfolding bytesOf
-bytes-more [] vs zero h = refl
-bytes-more [] vs (suc k) h = refl
-bytes-more (κ ∷ ks) [] k h = absurd (omega arith)
-bytes-more (κ ∷ ks) (v ∷ vs) zero h = ap (λ (n : ℕ). bytesOf n v ++ valueBytes ks vs) (sym (size-code κ))
-bytes-more (κ ∷ ks) (v ∷ vs) (suc k) h = bytes-more ks vs k (omega arith)
+-- The field k of a record whose fields start at `at`, from its own place in the file.
+module _ (s : List ℕ) (at : ℕ) (ks : List Kind) (k place : ℕ) (here : place ≡ at + start ks k) where
+  field-is : bigEndian s place (sizeOf ks k) ≡ getD (values ks (drop at s)) k 0
+  field-is = rw here (sym (value-at ks (drop at s) k ∙ number-drop at (start ks k) (sizeOf ks k) s))
 
-bytes-few : (ks : List Kind) (vs : List ℕ) → length (valueBytes ks vs) ≤ sizes ks
-bytes-few [] vs = omega arith
-bytes-few (κ ∷ ks) [] = omega arith
-bytes-few (κ ∷ ks) (v ∷ vs) = omega (arith, length-append (bytesOf (size κ) v) (valueBytes ks vs), length-bytesOf (size κ) v, bytes-few ks vs)
+  pub word-is : sizeOf ks k ≡ 4 → bigEndian s place 4 ≡ getD (values ks (drop at s)) k 0
+  word-is e = rw e at field-is
 
--- A turn of a loop over the columns of an operation. `size` is what the field at column k takes.
-module _ (op k : ℕ) where
-  pub start-turn : (start size : ℕ) → start ≡ sizes (take k (kindsOf op)) → size ≡ sizeAt (kindAt op k) → start + size ≡ sizes (take (k + 1) (kindsOf op))
-  unfolding kindAt
-  start-turn start size p q = rw (add-one k, sizes-more (kindsOf op) k, p, q)
-
-  -- the field at column k lies within the fields
-  pub start-fits : sizes (take k (kindsOf op)) + sizeAt (kindAt op k) ≤ sizes (kindsOf op)
-  unfolding kindAt
-  start-fits = omega (arith, sizes-here (kindsOf op) k, sizes-split (kindsOf op) k)
-
-  -- and it is the number that stands there
-  pub field-is : (s : List ℕ) (at start size : ℕ) → start ≡ sizes (take k (kindsOf op)) → size ≡ sizeAt (kindAt op k)
-      → bigEndian s (at + start) size ≡ getD (values (kindsOf op) (drop at s)) k 0
-  unfolding kindAt
-  field-is s at start size p q = rw (p, q) (sym (value-at (kindsOf op) (drop at s) k ∙ number-drop at (sizes (take k (kindsOf op))) (sizeAt (codeAt (kindsOf op) k)) s))
-
-  pub high-turn : (vs : List ℕ) (b : Bool) → b ≡ highAt (kindAt op k) (getD vs k 0)
-      → highRegister (drop k (kindsOf op)) (drop k vs) ≡ (b || highRegister (drop (k + 1) (kindsOf op)) (drop (k + 1) vs))
-  unfolding kindAt
-  high-turn vs b e = rw (add-one k, e) (high-more (kindsOf op) vs k)
-
-  module _ (out vs : List ℕ) (at size : ℕ) (q : size ≡ sizeAt (kindAt op k)) (room : at + sizes (drop k (kindsOf op)) ≤ length out) where
-    pub room-turn : at + size + sizes (drop (k + 1) (kindsOf op)) ≤ length out
-    unfolding kindAt
-    room-turn =
-        let g : sizes (drop (k + 1) (kindsOf op)) ≡ sizes (drop (suc k) (kindsOf op)) = ap (λ (n : ℕ). sizes (drop n (kindsOf op))) (add-one k) in
-        omega (arith, sizes-here (kindsOf op) k)
-
-    pub put-turn : k < length vs
-        → over (over out at (bytesOf size (getD vs k 0))) (at + size) (valueBytes (drop (k + 1) (kindsOf op)) (drop (k + 1) vs))
-        ≡ over out at (valueBytes (drop k (kindsOf op)) (drop k vs))
-    unfolding kindAt
-    put-turn h =
-        let b : List ℕ = bytesOf size (getD vs k 0) in
-        let r : List ℕ = valueBytes (drop (k + 1) (kindsOf op)) (drop (k + 1) vs) in
-        let l : length (bytesOf size (getD vs k 0)) ≡ size = length-bytesOf size (getD vs k 0) in
-        let m : length (valueBytes (drop (k + 1) (kindsOf op)) (drop (k + 1) vs)) ≤ sizes (drop (k + 1) (kindsOf op)) = bytes-few (drop (k + 1) (kindsOf op)) (drop (k + 1) vs) in
-        let e : b ++ r ≡ valueBytes (drop k (kindsOf op)) (drop k vs) = rw (add-one k, q) (sym (bytes-more (kindsOf op) vs k h)) in
-        ap (λ (n : ℕ). over (over out at b) (at + n) r) (sym l) ∙ (over-append out at b r (omega (arith, room-turn)) ∙ ap (over out at) e)
-
--- Past the last column nothing is left.
-module _ (op k : ℕ) (past : length (kindsOf op) ≤ k) where
-  pub high-none : (vs : List ℕ) → false ≡ highRegister (drop k (kindsOf op)) (drop k vs)
-  high-none vs = rw (drop-of-length-le (kindsOf op) past)
-
-  pub put-none : (out vs : List ℕ) (at : ℕ) → out ≡ over out at (valueBytes (drop k (kindsOf op)) (drop k vs))
-  put-none out vs at = rw (drop-of-length-le (kindsOf op) past, over-none out at)
+  pub byte-is : sizeOf ks k ≡ 1 → getD s place 0 ≡ getD (values ks (drop at s)) k 0
+  byte-is e = sym (number-one s place) ∙ (rw e at field-is)
 
 -- Values that fit are read back from their bytes, and bytes that are read are written back.
 fit-small : (κ : Kind) (v : ℕ) → Fits κ v → v < 256 ^ size κ
@@ -180,11 +87,18 @@ fit-low [] vs h = refl
 fit-low (κ ∷ ks) [] h = refl
 fit-low (κ ∷ ks) (v ∷ vs) h = rw (not-high κ v (h .0)) (fit-low ks vs (h .1))
 
--- a field that is no word is a byte
-pub byte-small : (ks : List Kind) (bs : List ℕ) (k : ℕ) → Bytes bs → sizeAt (codeAt ks k) ≤ 1 → getD (values ks bs) k 0 < 256
-byte-small ks bs k h l = rw (value-at ks bs k) (go (sizeAt (codeAt ks k)) l (number-small (sizes (take k ks)) (sizeAt (codeAt ks k)) bs h))
-  where
-    go : {v : ℕ} (w : ℕ) → w ≤ 1 → v < 256 ^ w → v < 256
-    go zero l s = omega arith
-    go (suc zero) l s = s
-    go (suc (suc w)) l s = absurd (omega arith)
+-- a field that is a register is at most 15, where no register is high
+abbrev pub isRegister : List Kind → ℕ → Bool
+isRegister [] k = false
+isRegister (register ∷ ks) zero = true
+isRegister (byte ∷ ks) zero = false
+isRegister (word ∷ ks) zero = false
+isRegister (κ ∷ ks) (suc k) = isRegister ks k
+
+pub low-field : (ks : List Kind) (vs : List ℕ) (k : ℕ) → highRegister ks vs ≡ false → isRegister ks k ≡ true → getD vs k 0 ≤ 15
+low-field [] vs k h e = absurd (false≢true e)
+low-field (κ ∷ ks) [] k h e = omega arith
+low-field (register ∷ ks) (v ∷ vs) zero h e = ltb-false 15 v (or-left (ltb 15 v) (highRegister ks vs) h)
+low-field (byte ∷ ks) (v ∷ vs) zero h e = absurd (false≢true e)
+low-field (word ∷ ks) (v ∷ vs) zero h e = absurd (false≢true e)
+low-field (κ ∷ ks) (v ∷ vs) (suc k) h e = low-field ks vs k (or-right (above15 κ v) (highRegister ks vs) h) e

@@ -12,8 +12,9 @@ use Rattle.takes.specs.Files.{Walk, ended, walkFrom, headLength, longest
 use Rattle.takes.specs.Writing.{headBytes}
 use Rattle.takes.specs.declared.Record.{Record}
 use Rattle.takes.proofs.Operations.{and-left, and-right}
-use Rattle.takes.proofs.Readings.{or-left, or-right}
-use Rattle.takes.proofs.Walks.{Next, from-end, from-refused, refused-number}
+use Rattle.takes.proofs.Fields.{or-left, or-right}
+use Rattle.takes.proofs.Readings.{refused-reading}
+use Rattle.takes.proofs.Walks.{Next, from-end, from-refused}
 
 pub record Head (s : List ℕ) : Type 0 where
   pub first-byte : getD s 0 0 ≡ 1
@@ -96,13 +97,16 @@ module _ (s : List ℕ) where
     unfolding fileNumber
     number-is n e = rw (← head, e)
 
-    pub judging-stop : (at count n : ℕ) → Judging at count → at < length s → refused n ≡ readAt s at → record { number = n; size = 0; count = 0 } ≡ judgement s
-    judging-stop at count n j h e =
-        let z : recordsNumber s ≡ n = sym (j .number) ∙ ap (λ (w : Walk). w .number) (from-refused s at n h (sym e)) in
-        let f : eqb n 0 ≡ false = ne-eqb n 0 (refused-number s at n e) in
+    pub judging-stop : (at count n : ℕ) → Judging at count → at < length s → n ≡ readAt s at .number → (n ≡ 0 → ⊥)
+        → record { number = n; size = 0; count = 0 } ≡ judgement s
+    judging-stop at count n j h e d =
+        let r : readAt s at ≡ refused n = sym (refused-reading s at n e d) in
+        let z : recordsNumber s ≡ n = sym (j .number) ∙ ap (λ (w : Walk). w .number) (from-refused s at n h r) in
+        let f : eqb n 0 ≡ false = ne-eqb n 0 d in
         rw (number-is n z, f, f)
 
-    pub judging-end : (at count size : ℕ) → Judging at count → length s ≤ at → size ≡ sizeByte s → record { number = 0; size = size; count = count } ≡ judgement s
+    pub judging-end : (at count size : ℕ) → Judging at count → length s ≤ at → size ≡ sizeByte s
+        → record { number = 0; size = size; count = count } ≡ judgement s
     unfolding recordsOf
     judging-end at count size j h e =
         let w : walkFrom s at ≡ ended 0 = from-end s at h in

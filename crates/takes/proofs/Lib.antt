@@ -1,7 +1,8 @@
--- What the proofs of several functions use. A loop of another crate over the records of a file cites Walks and Judging.
+-- What the proofs of several functions use. `pub` are those that a loop of another crate over the records of a file cites.
 mod Operations
 mod Numbers
-mod Fields
+pub mod Fields
+mod Rows
 mod Heads
 mod Records
 pub mod Readings

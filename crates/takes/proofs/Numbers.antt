@@ -4,7 +4,7 @@ use mathlib.Core.Path.{_≡_, refl, sym, _∙_, ap}
 use mathlib.Core.List.{List, [], _∷_, _++_, append-assoc}
 use native.Mathlib.Omega.{arith}
 use native.Mathlib.Nat.{add-assoc, zero-add, div-add-mod', pow-suc}
-use lib.Arith.{digits-div, digits-mod, digits-lt}
+use lib.Arith.{digits-div, digits-mod}
 use lib.ListN.{length, getD, take, drop}
 use lib.Seq.{getD-drop, getD-at, take-suc}
 use Rattle.common.specs.Bytes.{bigEndian, bytesOf}
@@ -19,16 +19,12 @@ unfolding bigEndian
 number-drop n at zero bs = refl
 number-drop n at (suc w) bs = rw (number-drop n at w bs, getD-drop n bs (at + w) 0, add-assoc n at w)
 
-pub number-small : (at w : ℕ) (bs : List ℕ) → Bytes bs → bigEndian bs at w < 256 ^ w
-unfolding bigEndian
-number-small at zero bs h = omega arith
-number-small at (suc w) bs h = rw pow-suc (digits-lt (number-small at w bs h) (h (at + w)))
-
 pub number-forth : (w v : ℕ) (rest : List ℕ) → v < 256 ^ w → bigEndian (bytesOf w v ++ rest) 0 w ≡ v
 unfolding bigEndian bytesOf
 number-forth zero v rest h = omega arith
 number-forth (suc w) v rest h =
-    let e : (bytesOf w (v / 256) ++ (v % 256 ∷ [])) ++ rest ≡ bytesOf w (v / 256) ++ (v % 256 ∷ rest) = append-assoc (bytesOf w (v / 256)) (v % 256 ∷ []) rest in
+    let e : (bytesOf w (v / 256) ++ (v % 256 ∷ [])) ++ rest ≡ bytesOf w (v / 256) ++ (v % 256 ∷ rest) =
+    append-assoc (bytesOf w (v / 256)) (v % 256 ∷ []) rest in
     let l : v < 256 ^ w * 256 = rw pow-suc at h in
     let d : v / 256 < 256 ^ w = omega arith in
     let g : getD (bytesOf w (v / 256) ++ (v % 256 ∷ rest)) (0 + w) 0 ≡ v % 256 =

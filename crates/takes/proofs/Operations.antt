@@ -1,4 +1,4 @@
--- The operation table: a rule for every operation from its rows, and the code's two arrays against it, each by one computed test.
+-- The operation table: a rule for every operation from its rows, the code's table against it by one computed test, and what a row says.
 use Prim.Native.Nat.{ℕ, zero, suc, _+_, _*_, _/_, _%_, _≤_, _<_}
 use mathlib.Core.Path.{_≡_, refl, sym, _∙_, ap, subst}
 use mathlib.Core.Bool.{Bool, true, false, _||_, _&&_, cond, false≢true}
@@ -9,7 +9,7 @@ use lib.Dec.{T, eqb, leb, ltb, eqb→eq}
 use lib.ListN.{length, getD}
 use borrow.Author.Tests.{eqb-true, ltb-true, leb-true}
 use Rattle.takes.specs.Operations.{Row, _has_, operations, knownIn, known, kindsOf, sizes, lengthOf}
-use Rattle.takes.specs.Table.{rows, columns, lengthIn, kindAt}
+use Rattle.takes.specs.Table.{rows, columns, digits, rowOf}
 
 pub and-left : (a b : Bool) → (a && b) ≡ true → a ≡ true
 and-left true b h = refl
@@ -98,40 +98,47 @@ from f (x ∷ xs) i t (suc k) h =
 entry : (g : ℕ → ℕ) (xs : List ℕ) → T (every (λ k x. eqb x (g k)) 0 xs) → (k : ℕ) → k < length xs → getD xs k 0 ≡ g k
 entry g xs t k h = eqb→eq (getD xs k 0) (g k) (subst (λ (m : ℕ). T (eqb (getD xs k 0) (g m))) (zero-add k) (from (λ k x. eqb x (g k)) xs 0 t k h))
 
-abbrev pub lengths : List ℕ
-lengths = 0 ∷ 6 ∷ 2 ∷ 7 ∷ 4 ∷ 7 ∷ 3 ∷ 8 ∷ 8 ∷ []
+-- the code's table
+abbrev pub table : List ℕ
+table = 0 ∷ 0x31_06 ∷ 0x1_02 ∷ 0x311_07 ∷ 0x211_04 ∷ 0x321_07 ∷ 0x11_03 ∷ 0x3111_08 ∷ 0x3211_08 ∷ []
 
-pub lengths-right : (op : ℕ) → op < rows → getD lengths op 0 ≡ lengthIn op
-unfolding lengthIn known kindsOf
-lengths-right = entry lengthIn lengths tt
+pub rows-right : (op : ℕ) → op < rows → getD table op 0 ≡ rowOf op
+unfolding rowOf known kindsOf
+rows-right = entry rowOf table tt
 
-abbrev pub kinds : List ℕ
-kinds =
-    0 ∷ 0 ∷ 0 ∷ 0
-    ∷ 1 ∷ 3 ∷ 0 ∷ 0
-    ∷ 1 ∷ 0 ∷ 0 ∷ 0
-    ∷ 1 ∷ 1 ∷ 3 ∷ 0
-    ∷ 1 ∷ 1 ∷ 2 ∷ 0
-    ∷ 1 ∷ 2 ∷ 3 ∷ 0
-    ∷ 1 ∷ 1 ∷ 0 ∷ 0
-    ∷ 1 ∷ 1 ∷ 1 ∷ 3
-    ∷ 1 ∷ 1 ∷ 2 ∷ 3
-    ∷ []
-
-kinds-at : (k : ℕ) → k < length kinds → getD kinds k 0 ≡ kindAt (k / columns) (k % columns)
-unfolding kindAt kindsOf
-kinds-at = entry (λ k. kindAt (k / columns) (k % columns)) kinds tt
-
-pub kinds-right : (op k : ℕ) → op < rows → k < columns → getD kinds (op * columns + k) 0 ≡ kindAt op k
-kinds-right op k h l =
-    let p : (op * columns + k) / columns ≡ op = omega arith in
-    let q : (op * columns + k) % columns ≡ k = omega arith in
-    kinds-at (op * columns + k) (omega arith) ∙ (ap (λ (n : ℕ). kindAt n ((op * columns + k) % columns)) p ∙ ap (kindAt op) q)
-
-pub lengths-past : (op : ℕ) → rows ≤ op → 0 ≡ lengthIn op
-unfolding lengthIn
-lengths-past op h = go (known op) refl
+pub rows-past : (op : ℕ) → rows ≤ op → 0 ≡ rowOf op
+unfolding rowOf
+rows-past op h = go (known op) refl
   where
-    go : (b : Bool) → known op ≡ b → 0 ≡ cond b (lengthOf op) 0
+    go : (b : Bool) → known op ≡ b → 0 ≡ cond b (lengthOf op + 256 * digits (kindsOf op)) 0
     go true e = absurd (omega (arith, in-table op e))
     go false e = refl
+
+-- What a row says: it is 0 where the table has no such operation, else the length byte and the kinds.
+module _ (op row : ℕ) (is : row ≡ rowOf op) where
+  pub row-none : row ≡ 0 → known op ≡ false
+  unfolding rowOf
+  row-none z = go (known op) (sym is ∙ z)
+    where
+      go : (b : Bool) → cond b (lengthOf op + 256 * digits (kindsOf op)) 0 ≡ 0 → b ≡ false
+      go true e = absurd (omega arith)
+      go false e = refl
+
+  pub row-known : (row ≡ 0 → ⊥) → known op ≡ true
+  unfolding rowOf
+  row-known z = go (known op) is
+    where
+      go : (b : Bool) → row ≡ cond b (lengthOf op + 256 * digits (kindsOf op)) 0 → b ≡ true
+      go true e = refl
+      go false e = absurd (z e)
+
+  module _ (listed : known op ≡ true) where
+    row-is : row ≡ lengthOf op + 256 * digits (kindsOf op)
+    unfolding rowOf
+    row-is = rw listed at is
+
+    pub row-length : row % 256 ≡ lengthOf op
+    row-length = omega (arith, row-is, in-table op listed .short)
+
+    pub row-kinds : row / 256 ≡ digits (kindsOf op)
+    row-kinds = omega (arith, row-is, in-table op listed .short)

@@ -1,9 +1,10 @@
 -- The reader's rules: what an accepted record is, and the answer at each of the code's returns.
-use Prim.Native.Nat.{ℕ, suc, _+_, _-_, _≤_, _<_}
+use Prim.Native.Nat.{ℕ, suc, _+_, _-_, _/_, _%_, _≤_, _<_}
 use mathlib.Core.Path.{_≡_, refl, sym, _∙_, ap}
-use mathlib.Core.Bool.{Bool, true, false, cond, _||_, false≢true}
+use mathlib.Core.Bool.{Bool, true, false, _||_}
 use mathlib.Core.Logic.{_⊎_, inl, inr}
 use mathlib.Core.List.{List}
+use mathlib.Core.Option.{some}
 use native.Mathlib.Omega.{arith}
 use native.Mathlib.Nat.{add-zero}
 use lib.Dec.{eqb, ltb}
@@ -12,17 +13,11 @@ use lib.Seq.{getD-drop, drop-drop}
 use borrow.Author.Tests.{lt-ltb, le-ltb, ltb-false, eq-eqb, ne-eqb, eqb-true, eqb-false}
 use Rattle.takes.specs.Operations.{known, kindsOf, sizes, lengthOf}
 use Rattle.takes.specs.Records.{recordOf}
-use Rattle.takes.specs.Reading.{lengthByte, operationByte, fieldValues, values, highRegister, accepted, refused, readRules, readBytes, readAt}
-use Rattle.takes.specs.Table.{lengthIn}
+use Rattle.takes.specs.Reading.{lengthByte, operationByte, fieldValues, values, highRegister, Given, accepted, refused, readRules, readBytes, readAt}
+use Rattle.takes.specs.Table.{digits, rowOf}
 use Rattle.takes.specs.declared.Record.{Record}
-
-pub or-left : (a b : Bool) → (a || b) ≡ false → a ≡ false
-or-left true b h = h
-or-left false b h = refl
-
-pub or-right : (a b : Bool) → (a || b) ≡ false → b ≡ false
-or-right true b h = absurd (false≢true (sym h))
-or-right false b h = h
+use Rattle.takes.proofs.Operations.{row-none, row-known, row-length, row-kinds}
+use Rattle.takes.proofs.Fields.{or-left, or-right}
 
 -- some bytes start with a record that passes 4 to 7
 pub record Whole (bs : List ℕ) : Type 0 where
@@ -109,69 +104,101 @@ module _ (s : List ℕ) (at : ℕ) where
   operation-at : operationByte (drop at s) ≡ getD s (at + 1) 0
   operation-at = getD-drop at s 1 0
 
-  fields-at : drop 2 (drop at s) ≡ drop (at + 1 + 1) s
-  fields-at = let e : at + 2 ≡ at + 1 + 1 = omega arith in drop-drop 2 at s ∙ ap (λ (n : ℕ). drop n s) e
-
   pub past-end : length s ≤ at → refused 4 ≡ readAt s at
   past-end h = sym (read-4 (drop at s) at (rw (drop-of-length-le s h)))
 
   pub zero-length : getD s at 0 ≡ 0 → refused 4 ≡ readAt s at
   zero-length h = sym (read-4 (drop at s) at (rw (length-at, h)))
 
-  module _ (n right : ℕ) (nonzero : getD s at 0 ≡ 0 → ⊥) (length-is : n ≡ getD s at 0) where
-    pub too-few : length s - (at + 1) < n → refused 4 ≡ readAt s at
-    too-few h =
-        let l : length (drop at s) - 1 < getD s at 0 = omega (arith, length-drop at s) in
-        sym (read-4 (drop at s) at (rw (length-at, ne-eqb (getD s at 0) 0 nonzero, lt-ltb (length (drop at s) - 1) (getD s at 0) l)))
+  pub too-few : (n : ℕ) → (getD s at 0 ≡ 0 → ⊥) → n ≡ getD s at 0 → length s - (at + 1) < n → refused 4 ≡ readAt s at
+  too-few n nonzero e h =
+      let l : length (drop at s) - 1 < getD s at 0 = omega (arith, length-drop at s) in
+      sym (read-4 (drop at s) at (rw (length-at, ne-eqb (getD s at 0) 0 nonzero, lt-ltb (length (drop at s) - 1) (getD s at 0) l)))
 
-    module _ (enough : n ≤ length s - (at + 1)) (right-is : right ≡ lengthIn (getD s (at + 1) 0)) where
-      fine : short (drop at s) at ≡ false
-      fine = not-short (drop at s) at (rw length-at nonzero) (rw length-at (omega (arith, length-drop at s)))
+-- Past 4: the record's n bytes are there, and `row` is the row of its operation.
+pub record Counted (s : List ℕ) (at n row : ℕ) : Type 0 where
+  pub nonzero : getD s at 0 ≡ 0 → ⊥
+  pub length-is : n ≡ getD s at 0
+  pub enough : n ≤ length s - (at + 1)
+  pub row-is : row ≡ rowOf (getD s (at + 1) 0)
 
-      pub unlisted : right ≡ 0 → refused 5 ≡ readAt s at
-      unfolding lengthIn
-      unlisted h = sym (read-5 (drop at s) at fine (rw operation-at (go (known (getD s (at + 1) 0)) (sym right-is ∙ h))))
-        where
-          go : (b : Bool) → cond b (lengthOf (getD s (at + 1) 0)) 0 ≡ 0 → b ≡ false
-          go true e = absurd (omega arith)
-          go false e = refl
+module _ {s : List ℕ} {at n row : ℕ} (k : Counted s at n row) where
+  abbrev op : ℕ
+  op = operationByte (drop at s)
 
-      module _ (listed : right ≡ 0 → ⊥) where
-        pub known-at : known (getD s (at + 1) 0) ≡ true
-        unfolding lengthIn
-        known-at = go (known (getD s (at + 1) 0)) right-is
-          where
-            go : (b : Bool) → right ≡ cond b (lengthOf (getD s (at + 1) 0)) 0 → b ≡ true
-            go true e = refl
-            go false e = absurd (listed e)
+  row-here : row ≡ rowOf op
+  row-here = rw operation-at (k .row-is)
 
-        right-at : right ≡ lengthOf (getD s (at + 1) 0)
-        unfolding lengthIn
-        right-at = rw known-at at right-is
+  fine : short (drop at s) at ≡ false
+  fine = not-short (drop at s) at (rw length-at (k .nonzero)) (rw length-at (omega (arith, length-drop at s, k .enough, k .length-is)))
 
-        pub wrong-length : (getD s at 0 ≡ right → ⊥) → refused 6 ≡ readAt s at
-        wrong-length h =
-            sym
-            (read-6 (drop at s) at fine (rw operation-at known-at)
-            (rw (length-at, operation-at, ← right-at) (ne-eqb (getD s at 0) right h)))
+  pub unlisted : row ≡ 0 → refused 5 ≡ readAt s at
+  unlisted h = sym (read-5 (drop at s) at fine (row-none op row row-here h))
 
-        module _ (same : getD s at 0 ≡ right) where
-          pub fields-fit : at + 1 + 1 + sizes (kindsOf (getD s (at + 1) 0)) ≤ length s
-          fields-fit = omega (arith, right-at)
+  module _ (listed : row ≡ 0 → ⊥) where
+    known-at : known op ≡ true
+    known-at = row-known op row row-here listed
 
-          exact-at : eqb (lengthByte (drop at s)) (lengthOf (operationByte (drop at s))) ≡ true
-          exact-at = rw (length-at, operation-at) (eq-eqb (getD s at 0) (lengthOf (getD s (at + 1) 0)) (same ∙ right-at))
+    right-at : row % 256 ≡ lengthOf op
+    right-at = row-length op row row-here known-at
 
-          values-at : fieldValues (drop at s) ≡ values (kindsOf (getD s (at + 1) 0)) (drop (at + 1 + 1) s)
-          values-at = rw (operation-at, fields-at)
+    pub kinds-at : row / 256 ≡ digits (kindsOf op)
+    kinds-at = row-kinds op row row-here known-at
 
-          pub high-at : true ≡ highRegister (kindsOf (getD s (at + 1) 0)) (values (kindsOf (getD s (at + 1) 0)) (drop (at + 1 + 1) s)) → refused 7 ≡ readAt s at
-          high-at h = sym (read-7 (drop at s) at fine (rw operation-at known-at) exact-at (rw (values-at, operation-at) (sym h)))
+    pub wrong-length : (getD s at 0 ≡ row % 256 → ⊥) → refused 6 ≡ readAt s at
+    wrong-length h = sym (read-6 (drop at s) at fine known-at (rw (length-at, ← right-at) (ne-eqb (getD s at 0) (row % 256) h)))
 
-          pub found-at : (r : Record) → false ≡ highRegister (kindsOf (getD s (at + 1) 0)) (values (kindsOf (getD s (at + 1) 0)) (drop (at + 1 + 1) s))
-              → r ≡ recordOf (getD s (at + 1) 0) (values (kindsOf (getD s (at + 1) 0)) (drop (at + 1 + 1) s)) → accepted r (at + 1 + n) ≡ readAt s at
-          found-at r h e =
-              rw (e, length-is)
-              (sym
-              (read-0 (drop at s) at fine (rw operation-at known-at) exact-at (rw (values-at, operation-at) (sym h))
-              ∙ rw (values-at, operation-at, length-at)))
+    module _ (same : getD s at 0 ≡ row % 256) where
+      pub fields-fit : at + 2 + sizes (kindsOf op) ≤ length s
+      fields-fit = omega (arith, right-at, k .enough, k .length-is)
+
+      exact-at : eqb (lengthByte (drop at s)) (lengthOf op) ≡ true
+      exact-at = eq-eqb (lengthByte (drop at s)) (lengthOf op) (length-at s at ∙ (same ∙ right-at))
+
+      pub high-at : true ≡ highRegister (kindsOf op) (fieldValues (drop at s)) → refused 7 ≡ readAt s at
+      high-at h = sym (read-7 (drop at s) at fine known-at exact-at (sym h))
+
+      pub good-at : false ≡ highRegister (kindsOf op) (fieldValues (drop at s)) → 0 ≡ readAt s at .number
+      good-at h = sym (ap (λ (g : Given). g .number) (read-0 (drop at s) at fine known-at exact-at (sym h)))
+
+-- A reading by its number: a refused one has a number alone, and a good one has a whole record.
+pub the-number : {n : ℕ} {g : Given} → refused n ≡ g → n ≡ g .number
+the-number e = ap (λ (g : Given). g .number) e
+
+module _ (s : List ℕ) (at : ℕ) where
+  pub refused-reading : (n : ℕ) → n ≡ readAt s at .number → (n ≡ 0 → ⊥) → refused n ≡ readAt s at
+  refused-reading n e z = go (read-cases (drop at s) at)
+    where
+      go : Whole (drop at s) ⊎ ((k : ℕ) × (readAt s at ≡ refused (suc k))) → refused n ≡ readAt s at
+      go (inl w) = absurd (z (e ∙ ap (λ (g : Given). g .number) (read-whole (drop at s) at w)))
+      go (inr (k, f)) = ap refused (e ∙ ap (λ (g : Given). g .number) f) ∙ sym f
+
+  module _ (good : readAt s at .number ≡ 0) where
+    pub good-whole : Whole (drop at s)
+    good-whole = go (read-cases (drop at s) at)
+      where
+        go : Whole (drop at s) ⊎ ((k : ℕ) × (readAt s at ≡ refused (suc k))) → Whole (drop at s)
+        go (inl w) = w
+        go (inr (k, f)) = absurd (omega (arith, sym good ∙ ap (λ (g : Given). g .number) f))
+
+    good-reading : readAt s at ≡ accepted (theRecord (drop at s)) (at + 1 + lengthByte (drop at s))
+    good-reading = read-whole (drop at s) at good-whole
+
+    pub good-found : (r : Record) (next : ℕ) → some r ≡ readAt s at .found → next ≡ readAt s at .next → accepted r next ≡ readAt s at
+    good-found r next p q = rw (p, q, good-reading)
+
+    -- what the inner reader takes from the file
+    pub good-known : known (getD s (at + 1) 0) ≡ true
+    good-known = rw operation-at at (good-whole .listed)
+
+    pub good-fits : at + 2 + sizes (kindsOf (getD s (at + 1) 0)) ≤ length s
+    good-fits = omega (arith, length-drop at s, good-whole .enough, rw operation-at at (good-whole .exact), good-whole .nonzero)
+
+    pub good-inside : (n : ℕ) → n ≡ getD s at 0 → at + 1 + n ≤ length s
+    good-inside n e = omega (arith, length-drop at s, good-whole .enough, good-whole .nonzero, length-at s at)
+
+    pub good-record : (r : Record) → r ≡ recordOf (getD s (at + 1) 0) (values (kindsOf (getD s (at + 1) 0)) (drop (at + 2) s)) → some r ≡ readAt s at .found
+    good-record r e = rw (e, good-reading, operation-at, drop-drop 2 at s)
+
+    pub good-next : (n : ℕ) → n ≡ getD s at 0 → at + 1 + n ≡ readAt s at .next
+    good-next n e = rw (e, good-reading, length-at)

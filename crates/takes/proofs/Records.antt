@@ -1,86 +1,82 @@
 -- The record of an operation from the bytes of its fields, and a record's bytes.
-use Prim.Native.Nat.{ℕ, _+_, _%_, _≤_, _<_}
+use Prim.Native.Nat.{ℕ, _+_, _≤_, _<_}
 use mathlib.Core.Path.{_≡_, refl, sym, _∙_, ap}
 use mathlib.Core.Bool.{true, false}
 use mathlib.Core.List.{List, _∷_, _++_}
 use native.Mathlib.Omega.{arith}
-use native.Mathlib.Nat.{mod-eq-of-lt, zero-add}
-use lib.Dec.{leb}
+use native.Mathlib.Nat.{add-zero, zero-add}
 use lib.ListN.{length, getD, drop, set, length-set}
 use Rattle.common.specs.Bytes.{bytesOf, over}
 use Rattle.common.proofs.Bytes.{over-first}
-use borrow.Author.Tests.{lt-ltb, le-ltb, leb-true}
-use Rattle.takes.specs.Operations.{known, kindsOf, sizes}
+use borrow.Author.Tests.{lt-ltb, le-ltb}
+use Rattle.takes.specs.Operations.{Kind, known, kindsOf, sizes, lengthOf}
 use Rattle.takes.specs.Records.{operation, fields, recordOf}
 use Rattle.takes.specs.Reading.{values, highRegister}
+use Rattle.takes.specs.Places.{byteAt, wordAt, getAt, giveAt, stepAt, readFieldsAt, writeAt, leftAt, copyAt, fillAt}
 use Rattle.takes.specs.Writing.{valueBytes, recordBytes, writeRecord}
-use Rattle.takes.specs.Table.{lengthIn, kindAt, sizeAt, padded}
-use Rattle.takes.specs.RoundTrips.{Bytes}
+use Rattle.takes.specs.Table.{columns, padded}
 use Rattle.takes.specs.declared.Record.{Record}
 use Rattle.takes.specs.declared.Record.the-variants.{Get, Give, Step, Read, Write, Left, Copy, Fill}
-use Rattle.takes.proofs.Operations.{InTable, in-table}
-use Rattle.takes.proofs.Fields.{codeAt, byte-small}
+use Rattle.takes.proofs.Fields.{start, sizeOf, byte-is, word-is}
 
-from-four : (op : ℕ) → 0 < op → (op ≡ 1 → ⊥) → (op ≡ 2 → ⊥) → (op ≡ 3 → ⊥) → 4 ≤ op
-from-four op a b c d = omega arith
+-- A law for each operation: the record of its fields, which start at `at`, each taken from its own place in the file.
+module _ (s : List ℕ) (at : ℕ) where
+  abbrev pub made : ℕ → Record
+  made op = recordOf op (values (kindsOf op) (drop at s))
 
-eight : (op : ℕ) → 4 ≤ op → op < 9 → (op ≡ 4 → ⊥) → (op ≡ 5 → ⊥) → (op ≡ 6 → ⊥) → (op ≡ 7 → ⊥) → op ≡ 8
-eight op a b c d e f = omega arith
+  -- a row's first field, a byte; its field k, where k bytes stand before it; and a word there
+  byte-here : (ks : List Kind) → sizeOf ks 0 ≡ 1 → byteAt s at ≡ getD (values ks (drop at s)) 0 0
+  byte-here ks e = byte-is s at ks 0 at (sym (add-zero at)) e
 
--- The code's arms: x, y and z are the first three fields as bytes, and v is a field as it stands.
-module _ (op : ℕ) (bs : List ℕ) (bytes : Bytes bs) where
-  abbrev field : ℕ → ℕ
-  field k = getD (values (kindsOf op) bs) k 0
+  byte-from : (k : ℕ) (ks : List Kind) → start ks k ≡ k → sizeOf ks k ≡ 1 → byteAt s (at + k) ≡ getD (values ks (drop at s)) k 0
+  byte-from k ks p e = byte-is s at ks k (at + k) (rw p) e
 
-  module _ (x y z v : ℕ) (px : x ≡ field 0 % 256) (py : y ≡ field 1 % 256) (pz : z ≡ field 2 % 256) where
-    is : (k w n : ℕ) → w ≡ field k % 256 → op ≡ n → leb (sizeAt (kindAt n k)) 1 ≡ true → w ≡ field k
-    unfolding kindAt
-    is k w n p e f = p ∙ mod-eq-of-lt (byte-small (kindsOf op) bs k bytes (leb-true (sizeAt (codeAt (kindsOf op) k)) 1 (ap (λ (o : ℕ). leb (sizeAt (kindAt o k)) 1) e ∙ f)))
+  word-from : (k : ℕ) (ks : List Kind) → start ks k ≡ k → sizeOf ks k ≡ 4 → wordAt s (at + k) ≡ getD (values ks (drop at s)) k 0
+  word-from k ks p e = word-is s at ks k (at + k) (rw p) e
 
-    pub get-is : op ≡ 1 → v ≡ field 1 → Get x v ≡ recordOf op (values (kindsOf op) bs)
-    unfolding recordOf kindAt kindsOf
-    get-is e p = rw (is 0 x 1 px e refl, p, e)
+  pub get-is : getAt s at ≡ made 1
+  unfolding recordOf kindsOf
+  get-is = rw (byte-here (kindsOf 1) refl, word-from 1 (kindsOf 1) refl refl)
 
-    pub give-is : op ≡ 2 → Give x ≡ recordOf op (values (kindsOf op) bs)
-    unfolding recordOf kindAt kindsOf
-    give-is e = rw (is 0 x 2 px e refl, e)
+  pub give-is : giveAt s at ≡ made 2
+  unfolding recordOf kindsOf
+  give-is = rw (byte-here (kindsOf 2) refl)
 
-    pub step-is : op ≡ 3 → v ≡ field 2 → Step x y v ≡ recordOf op (values (kindsOf op) bs)
-    unfolding recordOf kindAt kindsOf
-    step-is e p = rw (is 0 x 3 px e refl, is 1 y 3 py e refl, p, e)
+  pub step-is : stepAt s at ≡ made 3
+  unfolding recordOf kindsOf
+  step-is = rw (byte-here (kindsOf 3) refl, byte-from 1 (kindsOf 3) refl refl, word-from 2 (kindsOf 3) refl refl)
 
-    pub read-is : op ≡ 4 → Read x y z ≡ recordOf op (values (kindsOf op) bs)
-    unfolding recordOf kindAt kindsOf
-    read-is e = rw (is 0 x 4 px e refl, is 1 y 4 py e refl, is 2 z 4 pz e refl, e)
+  pub read-is : readFieldsAt s at ≡ made 4
+  unfolding recordOf kindsOf
+  read-is = rw (byte-here (kindsOf 4) refl, byte-from 1 (kindsOf 4) refl refl, byte-from 2 (kindsOf 4) refl refl)
 
-    pub write-is : op ≡ 5 → v ≡ field 2 → Write x y v ≡ recordOf op (values (kindsOf op) bs)
-    unfolding recordOf kindAt kindsOf
-    write-is e p = rw (is 0 x 5 px e refl, is 1 y 5 py e refl, p, e)
+  pub write-is : writeAt s at ≡ made 5
+  unfolding recordOf kindsOf
+  write-is = rw (byte-here (kindsOf 5) refl, byte-from 1 (kindsOf 5) refl refl, word-from 2 (kindsOf 5) refl refl)
 
-    pub left-is : op ≡ 6 → Left x y ≡ recordOf op (values (kindsOf op) bs)
-    unfolding recordOf kindAt kindsOf
-    left-is e = rw (is 0 x 6 px e refl, is 1 y 6 py e refl, e)
+  pub left-is : leftAt s at ≡ made 6
+  unfolding recordOf kindsOf
+  left-is = rw (byte-here (kindsOf 6) refl, byte-from 1 (kindsOf 6) refl refl)
 
-    pub copy-is : op ≡ 7 → v ≡ field 3 → Copy x y z v ≡ recordOf op (values (kindsOf op) bs)
-    unfolding recordOf kindAt kindsOf
-    copy-is e p = rw (is 0 x 7 px e refl, is 1 y 7 py e refl, is 2 z 7 pz e refl, p, e)
+  pub copy-is : copyAt s at ≡ made 7
+  unfolding recordOf kindsOf
+  copy-is = rw (byte-here (kindsOf 7) refl, byte-from 1 (kindsOf 7) refl refl, byte-from 2 (kindsOf 7) refl refl, word-from 3 (kindsOf 7) refl refl)
 
-    fill-at : op ≡ 8 → v ≡ field 3 → Fill x y z v ≡ recordOf op (values (kindsOf op) bs)
-    unfolding recordOf kindAt kindsOf
-    fill-at e p = rw (is 0 x 8 px e refl, is 1 y 8 py e refl, is 2 z 8 pz e refl, p, e)
+  pub fill-is : fillAt s at ≡ made 8
+  unfolding recordOf kindsOf
+  fill-is = rw (byte-here (kindsOf 8) refl, byte-from 1 (kindsOf 8) refl refl, byte-from 2 (kindsOf 8) refl refl, word-from 3 (kindsOf 8) refl refl)
 
-    pub fill-is : known op ≡ true → (op ≡ 1 → ⊥) → (op ≡ 2 → ⊥) → (op ≡ 3 → ⊥) → (op ≡ 4 → ⊥) → (op ≡ 5 → ⊥) → (op ≡ 6 → ⊥) → (op ≡ 7 → ⊥)
-        → v ≡ field 3 → Fill x y z v ≡ recordOf op (values (kindsOf op) bs)
-    fill-is t a b c d e f g p =
-        let i : InTable op = in-table op t in
-        let l : 4 ≤ op = from-four op (i .above) a b c in
-        fill-at (eight op l (i .below) d e f g) p
+-- An arm of the reader, for the operation n: what it needs of the file, and the record that it gives.
+pub arm-fits : (s : List ℕ) (at op n : ℕ) → op ≡ n → at + sizes (kindsOf op) ≤ length s → at + sizes (kindsOf n) ≤ length s
+arm-fits s at op n e h = rw e at h
 
--- A record's operation is in the table, and its fields are as many as the table says.
+pub arm-is : (s : List ℕ) (at op n : ℕ) (r q : Record) → op ≡ n → r ≡ q → q ≡ made s at n → r ≡ made s at op
+arm-is s at op n r q e p h = p ∙ (h ∙ ap (made s at) (sym e))
+
 pub record Sound (r : Record) : Type 0 where
   pub in-table : known (operation r) ≡ true
   pub bytes : length (valueBytes (kindsOf (operation r)) (fields r)) ≡ sizes (kindsOf (operation r))
-  pub columns : length (padded (fields r)) ≡ 4
+  pub columns : length (padded (fields r)) ≡ columns
   pub padded-high : highRegister (kindsOf (operation r)) (padded (fields r)) ≡ highRegister (kindsOf (operation r)) (fields r)
   pub padded-bytes : valueBytes (kindsOf (operation r)) (padded (fields r)) ≡ valueBytes (kindsOf (operation r)) (fields r)
 
@@ -103,41 +99,38 @@ module _ (r : Record) (out : List ℕ) (op : ℕ) (vs : List ℕ) (taken : (op �
   pub part-known : known op ≡ true
   part-known = rw (taken .0) (sound r .in-table)
 
-  pub part-columns : length vs ≡ 4
+  pub part-columns : length vs ≡ columns
   part-columns = rw (taken .1) (sound r .columns)
 
   high-is : highRegister (kindsOf op) vs ≡ highRegister (kindsOf (operation r)) (fields r)
   high-is = rw (taken .0, taken .1) (sound r .padded-high)
 
-  pub length-is : lengthIn op ≡ 1 + sizes (kindsOf op)
-  unfolding lengthIn
-  length-is = rw part-known
-
-  bytes-are : recordBytes r ≡ lengthIn op ∷ op ∷ valueBytes (kindsOf op) vs
+  bytes-are : recordBytes r ≡ lengthOf op ∷ op ∷ valueBytes (kindsOf op) vs
   unfolding recordBytes
-  bytes-are = rw (length-is, taken .0, taken .1, sound r .padded-bytes)
+  bytes-are = rw (taken .0, taken .1, sound r .padded-bytes)
 
-  count-is : length (recordBytes r) ≡ lengthIn op + 1
+  count-is : length (recordBytes r) ≡ lengthOf op + 1
   unfolding recordBytes
-  count-is = rw (length-is, taken .0) (omega (arith, sound r .bytes))
+  count-is = rw (taken .0) (omega (arith, sound r .bytes))
 
   pub write-high : true ≡ highRegister (kindsOf op) vs → record { number = 7; count = 0; slice = out } ≡ writeRecord r out
   unfolding writeRecord
   write-high h = rw (← high-is, ← h)
 
   module _ (low : false ≡ highRegister (kindsOf op) vs) where
-    pub write-short : length out < lengthIn op + 1 → record { number = 9; count = 0; slice = out } ≡ writeRecord r out
+    pub write-short : length out < lengthOf op + 1 → record { number = 9; count = 0; slice = out } ≡ writeRecord r out
     unfolding writeRecord
-    write-short h = rw (← high-is, ← low, count-is, lt-ltb (length out) (lengthIn op + 1) h)
+    write-short h = rw (← high-is, ← low, count-is, lt-ltb (length out) (lengthOf op + 1) h)
 
-    pub write-done : (n m : ℕ) (out′ : List ℕ) → m ≡ n → n ≡ lengthIn op → n + 1 ≤ length out
-        → out′ ≡ over (set (set out 0 n) 1 op) 2 (valueBytes (kindsOf op) vs) → record { number = 0; count = m + 1; slice = out′ } ≡ writeRecord r out
+    pub write-done : (n : ℕ) (out′ : List ℕ) → n ≡ lengthOf op → n + 1 ≤ length out
+        → out′ ≡ over (set (set out 0 n) 1 op) 2 (valueBytes (kindsOf op) vs) → record { number = 0; count = n + 1; slice = out′ } ≡ writeRecord r out
     unfolding writeRecord over
-    write-done n m out′ p q h e =
+    write-done n out′ q h e =
         let b : recordBytes r ≡ n ∷ op ∷ valueBytes (kindsOf op) vs = rw q bytes-are in
         let l : length (recordBytes r) ≡ n + 1 = rw q count-is in
         let f : over out 0 (n ∷ op ∷ valueBytes (kindsOf op) vs) ≡ over (set (set out 0 n) 1 op) 2 (valueBytes (kindsOf op) vs) =
-        over-first out 0 n (op ∷ valueBytes (kindsOf op) vs) (omega arith) ∙ over-first (set out 0 n) 1 op (valueBytes (kindsOf op) vs) (simp length-set (omega (arith, length-is))) in
+        over-first out 0 n (op ∷ valueBytes (kindsOf op) vs) (omega arith)
+        ∙ over-first (set out 0 n) 1 op (valueBytes (kindsOf op) vs) (simp length-set (omega arith)) in
         let z : out′ ≡ recordBytes r ++ drop (length (recordBytes r)) out =
         e ∙ (sym f ∙ (ap (over out 0) (sym b) ∙ ap (λ (k : ℕ). recordBytes r ++ drop k out) (zero-add (length (recordBytes r))))) in
-        rw (← high-is, ← low, z, l, p, le-ltb (length out) (n + 1) h)
+        rw (← high-is, ← low, z, l, le-ltb (length out) (n + 1) h)

@@ -1,18 +1,18 @@
 -- The records from a place on: what is still to come, one record at a time.
-use Prim.Native.Nat.{ℕ, zero, suc, _+_, _-_, _≤_, _<_}
+use Prim.Native.Nat.{ℕ, zero, suc, _+_, _-_, _*_, _≤_, _<_}
 use mathlib.Core.Path.{_≡_, refl, sym, _∙_, ap}
 use mathlib.Core.Bool.{Bool, true, false}
 use mathlib.Core.Logic.{_⊎_, inl, inr}
 use mathlib.Core.List.{List}
-use mathlib.Core.Option.{none, some}
+use mathlib.Core.Option.{some}
 use native.Mathlib.Omega.{arith}
 use lib.Dec.{ltb}
 use lib.ListN.{length, drop, length-drop}
 use borrow.Author.Tests.{lt-ltb, le-ltb, ltb-true, ltb-false}
-use Rattle.takes.specs.Reading.{lengthByte, Given, accepted, refused, readAt}
+use Rattle.takes.specs.Reading.{lengthByte, Given, refused, readAt}
 use Rattle.takes.specs.Files.{Walk, ended, before, walk, walkFrom}
 use Rattle.takes.specs.declared.Record.{Record}
-use Rattle.takes.proofs.Readings.{Whole, theRecord, read-whole, read-cases}
+use Rattle.takes.proofs.Readings.{Whole, theRecord, read-whole, read-cases, good-whole}
 
 abbrev pub nextPlace : List ℕ → ℕ → ℕ
 nextPlace s at = at + 1 + lengthByte (drop at s)
@@ -46,13 +46,37 @@ module _ (s : List ℕ) where
       inside l next (inl w) =
           let i = whole-inside s at w in
           walk-on f at w
-          ∙ (ap (before (theRecord (drop at s))) (next (nextPlace s at) (omega (arith, i .0, i .1, i .2)) (omega (arith, i .0, i .1, i .2))) ∙ sym (walk-on g at w))
+          ∙ (ap (before (theRecord (drop at s))) (next (nextPlace s at) (omega (arith, i .0, i .1, i .2)) (omega (arith, i .0, i .1, i .2)))
+          ∙ sym (walk-on g at w))
       inside l next (inr (n, e)) = walk-stop f at (suc n) l e ∙ sym (walk-stop g at (suc n) l e)
 
       go : (b : Bool) → ltb at (length s) ≡ b → ((at : ℕ) → length s - at ≤ f → length s - at ≤ g → walk f s at ≡ walk g s at)
           → walk (suc f) s at ≡ walk (suc g) s at
       go true e next = inside (ltb-true at (length s) e) next (read-cases (drop at s) at)
       go false e next = let l : length s ≤ at = ltb-false at (length s) e in walk-end (suc f) at l ∙ sym (walk-end (suc g) at l)
+
+  -- each record takes two bytes or more, its length byte and its operation
+  abbrev Spans : ℕ → Type 0
+  Spans f = (at : ℕ) → at ≤ length s → at + 2 * length (walk f s at .records) ≤ length s
+
+  walk-spans : (f : ℕ) → Spans f
+  unfolding walk
+  walk-spans zero at h = omega arith
+  walk-spans (suc f) at h = go (ltb at (length s)) refl (walk-spans f)
+    where
+      inside : at < length s → Spans f → Whole (drop at s) ⊎ ((n : ℕ) × (readAt s at ≡ refused (suc n)))
+          → at + 2 * length (walk (suc f) s at .records) ≤ length s
+      inside l next (inl w) =
+          let i = whole-inside s at w in
+          rw (walk-on f at w) (omega (arith, i .1, next (nextPlace s at) (i .2)))
+      inside l next (inr (n, e)) = rw (walk-stop f at (suc n) l e) (omega arith)
+
+      go : (b : Bool) → ltb at (length s) ≡ b → Spans f → at + 2 * length (walk (suc f) s at .records) ≤ length s
+      go true e next = inside (ltb-true at (length s) e) next (read-cases (drop at s) at)
+      go false e next = rw (walk-end (suc f) at (ltb-false at (length s) e)) (omega arith)
+
+  pub from-spans : (at : ℕ) → at ≤ length s → at + 2 * length (walkFrom s at .records) ≤ length s
+  from-spans = walk-spans (length s)
 
   pub from-end : (at : ℕ) → length s ≤ at → walkFrom s at ≡ ended 0
   from-end at h = walk-end (length s) at h
@@ -80,46 +104,28 @@ pub record Next (s : List ℕ) (at : ℕ) (r : Record) (next : ℕ) : Type 0 whe
   pub to-come : walkFrom s at ≡ before r (walkFrom s next)
 
 module _ (s : List ℕ) (at : ℕ) where
-  pub found-next : (r : Record) (next : ℕ) → accepted r next ≡ readAt s at → Next s at r next
-  found-next r next e = go (read-cases (drop at s) at)
-    where
-      go : Whole (drop at s) ⊎ ((n : ℕ) × (readAt s at ≡ refused (suc n))) → Next s at r next
-      go (inl w) =
-          let i = whole-inside s at w in
-          let a : accepted r next ≡ accepted (theRecord (drop at s)) (nextPlace s at) = e ∙ read-whole (drop at s) at w in
-          let f : some r ≡ some (theRecord (drop at s)) = ap (λ (g : Given). g .found) a in
-          let p : r ≡ theRecord (drop at s) = cc in
-          let q : next ≡ nextPlace s at = ap (λ (g : Given). g .next) a in
-          record {
-            whole = w;
-            the-record = p;
-            next-place = q;
-            beyond = omega (arith, i .1);
-            inside = omega (arith, i .2);
-            to-come = rw (p, q) (from-found s at w);
-          }
-      go (inr (n, f)) = let z : _≡_ {A = ℕ} 0 (suc n) = ap (λ (g : Given). g .number) (e ∙ f) in absurd (omega arith)
+  module _ (good : readAt s at .number ≡ 0) where
+    pub next-judged : (next : ℕ) → next ≡ readAt s at .next → Next s at (theRecord (drop at s)) next
+    next-judged next q =
+        let w : Whole (drop at s) = good-whole s at good in
+        let i = whole-inside s at w in
+        let b : next ≡ nextPlace s at = q ∙ ap (λ (g : Given). g .next) (read-whole (drop at s) at w) in
+        record { whole = w; the-record = refl; next-place = b; beyond = omega (arith, i .1); inside = omega (arith, i .2); to-come = rw b (from-found s at w) }
 
-  -- a refused record is refused with a number that is not 0
-  pub refused-number : (n : ℕ) → refused n ≡ readAt s at → n ≡ 0 → ⊥
-  refused-number n e z = go (read-cases (drop at s) at)
-    where
-      go : Whole (drop at s) ⊎ ((k : ℕ) × (readAt s at ≡ refused (suc k))) → ⊥
-      go (inl w) =
-          let a : refused n ≡ accepted (theRecord (drop at s)) (nextPlace s at) = e ∙ read-whole (drop at s) at w in
-          let f : none ≡ some (theRecord (drop at s)) = ap (λ (g : Given). g .found) a in
-          let b : _≡_ {A = ℕ} 0 1 = cc in
-          omega arith
-      go (inr (k, f)) = let b : n ≡ suc k = ap (λ (g : Given). g .number) (e ∙ f) in omega arith
+    pub found-next : (r : Record) (next : ℕ) → some r ≡ readAt s at .found → next ≡ readAt s at .next → Next s at r next
+    found-next r next p q =
+        let f : some r ≡ some (theRecord (drop at s)) = p ∙ ap (λ (g : Given). g .found) (read-whole (drop at s) at (good-whole s at good)) in
+        let a : r ≡ theRecord (drop at s) = cc in
+        rw a (next-judged next q)
 
   module _ (none-refused : walkFrom s at .number ≡ 0) (here : at < length s) where
-    -- where the records from a place on are accepted, the reader finds the next one
-    pub not-refused : (n : ℕ) → refused n ≡ readAt s at → ⊥
-    not-refused n e = refused-number n e (sym (ap (λ (w : Walk). w .number) (from-refused s at n here (sym e))) ∙ none-refused)
+    -- where the records from a place on are accepted, the next one is good
+    pub accepted-here : readAt s at .number ≡ 0
+    accepted-here = go (read-cases (drop at s) at)
+      where
+        go : Whole (drop at s) ⊎ ((n : ℕ) × (readAt s at ≡ refused (suc n))) → readAt s at .number ≡ 0
+        go (inl w) = ap (λ (g : Given). g .number) (read-whole (drop at s) at w)
+        go (inr (n, e)) = absurd (omega (arith, sym (ap (λ (w : Walk). w .number) (from-refused s at (suc n) here e)) ∙ none-refused))
 
     pub accepted-whole : Whole (drop at s)
-    accepted-whole = go (read-cases (drop at s) at)
-      where
-        go : Whole (drop at s) ⊎ ((n : ℕ) × (readAt s at ≡ refused (suc n))) → Whole (drop at s)
-        go (inl w) = w
-        go (inr (n, e)) = absurd (not-refused (suc n) (sym e))
+    accepted-whole = good-whole s at accepted-here

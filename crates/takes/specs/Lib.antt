@@ -1,6 +1,7 @@
 pub mod Operations
 pub mod Records
 pub mod Reading
+pub mod Places
 pub mod Files
 pub mod Writing
 pub mod RoundTrips

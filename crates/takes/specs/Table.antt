@@ -1,34 +1,35 @@
--- The operation table as the code holds it: numbers for the kinds, and rows of equal length.
-use Prim.Native.Nat.{ℕ}
+-- The operation table as the code holds it: a number for each kind, and one for each row.
+use Prim.Native.Nat.{ℕ, _+_, _*_}
 use mathlib.Core.Bool.{Bool, false, cond}
-use mathlib.Core.List.{List, _++_, map}
+use mathlib.Core.List.{List, [], _∷_, _++_}
 use lib.Dec.{eqb, ltb}
-use lib.ListN.{getD, take, replicate}
+use lib.ListN.{take, replicate}
 use Rattle.takes.specs.Operations.{Kind, register, byte, word, known, kindsOf, lengthOf}
 
--- one row more than there are operations, for the number 0, and a column for each field
+-- one row more than there are operations, for the number 0, and the most fields that a row has
 abbrev pub rows : ℕ
 rows = 9
 
 abbrev pub columns : ℕ
 columns = 4
 
--- an operation's length byte, 0 where the table has no such operation
-unfoldable pub lengthIn : ℕ → ℕ
-lengthIn op = cond (known op) (lengthOf op) 0
-
 abbrev pub code : Kind → ℕ
 code register = 1
 code byte = 2
 code word = 3
 
--- the kind of an operation's field k, 0 where it has no such field
-unfoldable pub kindAt : ℕ → ℕ → ℕ
-kindAt op k = getD (map code (kindsOf op)) k 0
+-- kinds as the hexadecimal digits of a number, the first kind's digit the last
+abbrev pub digits : List Kind → ℕ
+digits [] = 0
+digits (k ∷ ks) = code k + 16 * digits ks
+
+-- an operation's row: its last two hexadecimal digits are the length byte of its records, those before them the kinds of its fields; 0 is no operation's
+unfoldable pub rowOf : ℕ → ℕ
+rowOf op = cond (known op) (lengthOf op + 256 * digits (kindsOf op)) 0
 
 -- by a kind's number: the bytes that a field takes, and whether a value is a register above 15
 abbrev pub sizeAt : ℕ → ℕ
-sizeAt c = cond (eqb c 0) 0 (cond (eqb c 3) 4 1)
+sizeAt c = cond (eqb c 3) 4 1
 
 abbrev pub highAt : ℕ → ℕ → Bool
 highAt c v = cond (eqb c 1) (ltb 15 v) false

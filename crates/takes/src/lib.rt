@@ -1,15 +1,17 @@
 // The take format: its operation table, the reader, the judging of a file and the writer.
 ghost use mathlib.Core.Path.{_≡_};
-ghost use Prim.Native.Nat.{ℕ, _+_, _%_, _≤_, _<_};
+ghost use Prim.Native.Nat.{_+_, _≤_};
 ghost use mathlib.Core.Bool.{true};
-ghost use lib.ListN.{length, getD, take, drop};
+ghost use lib.ListN.{length, drop};
 ghost use Rattle.common.specs.Bytes.{over};
 ghost use Rattle.takes.specs.Operations.{known, kindsOf, sizes};
-ghost use Rattle.takes.specs.Reading.{values, highRegister, given, readAt};
-ghost use Rattle.takes.specs.Records.{operation, fields, recordOf};
+ghost use Rattle.takes.specs.Reading.{operationByte, fieldValues, highRegister, given, readAt};
+ghost use Rattle.takes.specs.Records.{operation, fields};
 ghost use Rattle.takes.specs.Files.{headNumber, judgement};
 ghost use Rattle.takes.specs.Writing.{stored, writeHead, writeRecord, rewriteFile, valueBytes};
-ghost use Rattle.takes.specs.Table.{rows, columns, lengthIn, kindAt, sizeAt, highAt, padded};
+ghost use Rattle.takes.specs.Table.{columns, rowOf, digits, sizeAt, highAt, padded};
+
+pub mod unchecked;
 
 // A call of a take with its fields, in the file's order: registers first, then what is given as it stands.
 pub enum Record {
@@ -47,67 +49,36 @@ const HEAD: usize = 2;
 
 const LONGEST: usize = 8192;
 
-// The kinds of a field. Where an operation has no further field its row holds NONE.
-const NONE: u8 = 0;
+// The kinds of a field that the code asks for by name: a register byte, and a big-endian number of four bytes. 2 is a plain byte.
+const REGISTER: u32 = 1;
 
-const REGISTER: u8 = 1;
+const WORD: u32 = 3;
 
-const BYTE: u8 = 2;
-
-const WORD: u8 = 3;
-
-// The operation table: a record's length byte by its operation, and the kinds of its fields, FIELDS to a row. 0 is no operation.
-const FIELDS: usize = 4;
-
-const LENGTHS: [u8; 9] = [0, 6, 2, 7, 4, 7, 3, 8, 8];
-
-const KINDS: [u8; 36] = [
+// The operation table, a row for each operation and one for 0, which is none. A row's last two hexadecimal digits are the length byte of its records;
+// those before are the kinds of its fields, the first field's digit the last. So a record is looked up once, and its kinds come one by one.
+const OPERATIONS: [u32; 9] = [
     // no operation
-    NONE,
-    NONE,
-    NONE,
-    NONE,
+    0,
     // get d n
-    REGISTER,
-    WORD,
-    NONE,
-    NONE,
+    0x31_06,
     // give a
-    REGISTER,
-    NONE,
-    NONE,
-    NONE,
+    0x1_02,
     // step d a i
-    REGISTER,
-    REGISTER,
-    WORD,
-    NONE,
+    0x311_07,
     // read d a w
-    REGISTER,
-    REGISTER,
-    BYTE,
-    NONE,
+    0x211_04,
     // write a w v
-    REGISTER,
-    BYTE,
-    WORD,
-    NONE,
+    0x321_07,
     // left d a
-    REGISTER,
-    REGISTER,
-    NONE,
-    NONE,
+    0x11_03,
     // copy d a b n
-    REGISTER,
-    REGISTER,
-    REGISTER,
-    WORD,
+    0x3111_08,
     // fill d a v n
-    REGISTER,
-    REGISTER,
-    BYTE,
-    WORD,
+    0x3211_08,
 ];
+
+// The most fields that a record has.
+const FIELDS: usize = 4;
 
 fn wide(x: u8) -> u32
     ensures { λ r. ⌜ r ≡ x ⌝ }
@@ -121,143 +92,88 @@ fn index(x: u8) -> usize
     x as usize
 }
 
-// The length byte of an operation's record, 0 where the table has no such operation.
-fn length_of(op: u8) -> u8
-    ensures { λ r. ⌜ r ≡ lengthIn op ⌝ }
+// The row of an operation, 0 where the table has no such operation.
+fn row_of(op: u8) -> u32
+    ensures { λ r. ⌜ r ≡ rowOf op ⌝ }
 {
     let row = index(op);
-    if row < LENGTHS.len() { LENGTHS[row] } else { 0 }
-}
-
-fn kind_of(op: u8, k: usize) -> u8
-    requires { ⌜ (op < rows) × (k < columns) ⌝ }
-    ensures { λ r. ⌜ r ≡ kindAt op k ⌝ }
-{
-    let row = index(op) * FIELDS;
-    KINDS[row + k]
-}
-
-// The bytes that the field k takes.
-fn size_of(op: u8, k: usize) -> usize
-    requires { ⌜ (op < rows) × (k < columns) ⌝ }
-    ensures { λ r. ⌜ r ≡ sizeAt (kindAt op k) ⌝ }
-{
-    let kind = kind_of(op, k);
-    match kind {
-        NONE => 0,
-        WORD => 4,
-        _ => 1,
+    if row < OPERATIONS.len() {
+        OPERATIONS[row]
+    } else {
+        0
     }
 }
 
-// Where the field k starts among the bytes of an operation's fields.
-fn start_of(op: u8, k: usize) -> usize
-    requires { ⌜ (op < rows) × (k < columns) ⌝ }
-    ensures { λ r. ⌜ r ≡ sizes (take k (kindsOf op)) ⌝ }
+// The bytes that a field takes.
+fn size_of(kind: u32) -> usize
+    ensures { λ r. ⌜ r ≡ sizeAt kind ⌝ }
 {
-    let mut start = 0usize;
-    let mut i = 0usize;
-    while i < k {
-        start += size_of(op, i);
-        i += 1;
-    }
-    start
+    if kind == WORD { 4 } else { 1 }
 }
 
-// The field k of a record whose fields start at `at`, straight from the file; 0 where the operation has no such field.
-fn field(file: &[u8], at: usize, op: u8, k: usize) -> u32
-    requires { ⌜ (op < rows) × (k < columns) ⌝ }
-    requires { ⌜ at + sizes (kindsOf op) ≤ length (now file) ⌝ }
-    ensures { λ r. ⌜ r ≡ getD (values (kindsOf op) (drop at (now (file .entry)))) k 0 ⌝ }
+// Whether v is a register above 15.
+fn is_high(kind: u32, v: u32) -> bool
+    ensures { λ r. ⌜ r ≡ highAt kind v ⌝ }
 {
-    let place = at + start_of(op, k);
-    let size = size_of(op, k);
-    common::read_number(file, place, size)
-}
-
-fn byte_field(file: &[u8], at: usize, op: u8, k: usize) -> u8
-    requires { ⌜ (op < rows) × (k < columns) ⌝ }
-    requires { ⌜ at + sizes (kindsOf op) ≤ length (now file) ⌝ }
-    ensures { λ r. ⌜ r ≡ getD (values (kindsOf op) (drop at (now (file .entry)))) k 0 % 256 ⌝ }
-{
-    (field(file, at, op, k) % 256) as u8
-}
-
-fn record_at(file: &[u8], at: usize, op: u8) -> Record
-    requires { ⌜ known op ≡ true ⌝ }
-    requires { ⌜ at + sizes (kindsOf op) ≤ length (now file) ⌝ }
-    ensures { λ r. ⌜ r ≡ recordOf op (values (kindsOf op) (drop at (now (file .entry)))) ⌝ }
-{
-    let x = byte_field(file, at, op, 0);
-    let y = byte_field(file, at, op, 1);
-    let z = byte_field(file, at, op, 2);
-    match op {
-        1 => Record::Get(x, field(file, at, op, 1)),
-        2 => Record::Give(x),
-        3 => Record::Step(x, y, field(file, at, op, 2)),
-        4 => Record::Read(x, y, z),
-        5 => Record::Write(x, y, field(file, at, op, 2)),
-        6 => Record::Left(x, y),
-        7 => Record::Copy(x, y, z, field(file, at, op, 3)),
-        _ => Record::Fill(x, y, z, field(file, at, op, 3)),
-    }
-}
-
-// Whether v is a register above 15 as the field k.
-fn is_high(op: u8, k: usize, v: u32) -> bool
-    requires { ⌜ (op < rows) × (k < columns) ⌝ }
-    ensures { λ r. ⌜ r ≡ highAt (kindAt op k) v ⌝ }
-{
-    let kind = kind_of(op, k);
     if kind == REGISTER { 15 < v } else { false }
 }
 
-// Whether a record in the file has a register above 15.
-fn high_in_file(file: &[u8], at: usize, op: u8) -> bool
-    requires { ⌜ known op ≡ true ⌝ }
-    requires { ⌜ at + sizes (kindsOf op) ≤ length (now file) ⌝ }
-    ensures { λ r. ⌜ r ≡ highRegister (kindsOf op) (values (kindsOf op) (drop at (now (file .entry)))) ⌝ }
+// Whether the record at a place of the file has a register above 15. A register is one byte, so a field's first byte is enough.
+fn high_in_file(file: &[u8], at: usize, kinds: u32) -> bool
+    requires { ⌜ kinds ≡ digits (kindsOf (operationByte (drop at (now file)))) ⌝ }
+    requires { ⌜ at + 2 + sizes (kindsOf (operationByte (drop at (now file)))) ≤ length (now file) ⌝ }
+    ensures { λ r. ⌜ r ≡ highRegister (kindsOf (operationByte (drop at (now (file .entry))))) (fieldValues (drop at (now (file .entry)))) ⌝ }
 {
-    let mut k = 0usize;
-    while k < FIELDS {
-        let v = field(file, at, op, k);
-        if is_high(op, k, v) {
+    let mut left = kinds;
+    let mut place = at + 2;
+    while left != 0 {
+        let kind = left % 16;
+        if is_high(kind, wide(file[place])) {
             return true;
         }
-        k += 1;
+        place += size_of(kind);
+        left = left / 16;
     }
     false
+}
+
+// The refusal of the record at any place of any bytes, 0 where there is none.
+fn refusal(file: &[u8], at: usize) -> u32
+    ensures { λ r. ⌜ r ≡ readAt (now (file .entry)) at .number ⌝ }
+{
+    if file.len() <= at {
+        return 4;
+    }
+    let count = file[at];
+    if count == 0 {
+        return 4;
+    }
+    let place = at + 1;
+    if file.len() - place < index(count) {
+        return 4;
+    }
+    let row = row_of(file[place]);
+    if row == 0 {
+        return 5;
+    }
+    if wide(count) != row % 256 {
+        return 6;
+    }
+    if high_in_file(file, at, row / 256) {
+        return 7;
+    }
+    0
 }
 
 // Reads the record at any place of any bytes.
 pub fn read(file: &[u8], at: usize) -> Reading
     ensures { λ r. ⌜ given r ≡ readAt (now (file .entry)) at ⌝ }
 {
-    if file.len() <= at {
-        return Reading::Refused(4);
+    let number = refusal(file, at);
+    if number != 0 {
+        return Reading::Refused(number);
     }
-    let count = file[at];
-    if count == 0 {
-        return Reading::Refused(4);
-    }
-    let length = index(count);
-    let place = at + 1;
-    if file.len() - place < length {
-        return Reading::Refused(4);
-    }
-    let op = file[place];
-    let right = length_of(op);
-    if right == 0 {
-        return Reading::Refused(5);
-    }
-    if count != right {
-        return Reading::Refused(6);
-    }
-    let from = place + 1;
-    if high_in_file(file, from, op) {
-        return Reading::Refused(7);
-    }
-    Reading::Found(record_at(file, from, op), place + length)
+    Reading::Found(unchecked::read(file, at), unchecked::next(file, at))
 }
 
 // A file's refusal by its head and its length, 0 where there is none.
@@ -301,20 +217,16 @@ pub fn judge(file: &[u8]) -> Judgement
     let mut at = HEAD;
     let mut count = 0usize;
     while at < file.len() {
-        let reading = read(file, at);
-        match reading {
-            Reading::Refused(number) => {
-                return Judgement {
-                    number,
-                    size: 0,
-                    count: 0,
-                };
-            }
-            Reading::Found(_, next) => {
-                at = next;
-                count += 1;
-            }
+        let number = refusal(file, at);
+        if number != 0 {
+            return Judgement {
+                number,
+                size: 0,
+                count: 0,
+            };
         }
+        at = unchecked::next(file, at);
+        count += 1;
     }
     Judgement {
         number: 0,
@@ -369,35 +281,40 @@ fn parts_of(r: Record) -> Parts
 }
 
 // Whether a record to be written has a register above 15.
-fn high_in_parts(p: Parts) -> bool
+fn high_in_parts(p: Parts, kinds: u32) -> bool
     requires { ⌜ (known (p .op) ≡ true) × (length (p .values) ≡ columns) ⌝ }
+    requires { ⌜ kinds ≡ digits (kindsOf (p .op)) ⌝ }
     ensures { λ r. ⌜ r ≡ highRegister (kindsOf (p .op)) (p .values) ⌝ }
 {
-    let op = p.op;
+    let mut left = kinds;
     let mut k = 0usize;
-    while k < FIELDS {
+    while left != 0 {
         let v = p.values[k];
-        if is_high(op, k, v) {
+        if is_high(left % 16, v) {
             return true;
         }
+        left = left / 16;
         k += 1;
     }
     false
 }
 
-fn put_fields(out: &mut [u8], p: Parts)
+// Stores the fields of a record, behind its length byte and its operation.
+fn put_fields(out: &mut [u8], p: Parts, kinds: u32)
     requires { ⌜ (known (p .op) ≡ true) × (length (p .values) ≡ columns) ⌝ }
+    requires { ⌜ kinds ≡ digits (kindsOf (p .op)) ⌝ }
     requires { ⌜ 2 + sizes (kindsOf (p .op)) ≤ length (now out) ⌝ }
     ensures { λ _. ⌜ now (out .exit) ≡ over (now (out .entry)) 2 (valueBytes (kindsOf (p .op)) (p .values)) ⌝ }
 {
-    let op = p.op;
+    let mut left = kinds;
     let mut at = 2usize;
     let mut k = 0usize;
-    while k < FIELDS {
-        let size = size_of(op, k);
+    while left != 0 {
+        let size = size_of(left % 16);
         let v = p.values[k];
         common::write_number(out, at, size, v);
         at += size;
+        left = left / 16;
         k += 1;
     }
 }
@@ -437,24 +354,26 @@ pub fn write_record(out: &mut [u8], r: Record) -> Written
     ensures { λ w. ⌜ stored w (now (out .exit)) ≡ writeRecord r (now (out .entry)) ⌝ }
 {
     let p = parts_of(r);
-    if high_in_parts(p) {
+    let op = p.op;
+    let row = row_of(op);
+    let kinds = row / 256;
+    if high_in_parts(p, kinds) {
         return Written {
             number: 7,
             count: 0,
         };
     }
-    let op = p.op;
-    let length = length_of(op);
-    let count = wide(length) + 1;
+    let length = row % 256;
+    let count = length + 1;
     if out.len() < count as usize {
         return Written {
             number: 9,
             count: 0,
         };
     }
-    out[0] = length;
+    out[0] = length as u8;
     out[1] = op;
-    put_fields(out, p);
+    put_fields(out, p, kinds);
     Written { number: 0, count }
 }
 
@@ -477,16 +396,9 @@ pub fn rewrite(file: &[u8], out: &mut [u8]) -> Written
     write_head(out, size);
     let mut at = HEAD;
     while at < file.len() {
-        let reading = read(file, at);
-        match reading {
-            Reading::Refused(number) => {
-                return Written { number, count: 0 };
-            }
-            Reading::Found(record, next) => {
-                write_record(&mut out[at..], record);
-                at = next;
-            }
-        }
+        let record = unchecked::read(file, at);
+        write_record(&mut out[at..], record);
+        at = unchecked::next(file, at);
     }
     Written {
         number: 0,

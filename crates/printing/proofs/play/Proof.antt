@@ -1,10 +1,14 @@
--- The buffers are as long as they are said to be, and an accepted run had room for its answers.
-use Prim.Native.Nat.{_/_}
-use mathlib.Core.Path.{sym}
+-- The buffers are as long as they are said to be, so they fit every file.
+use Prim.Native.Nat.{ℕ, _+_, _-_, _*_, _/_, _^_, _≤_}
+use mathlib.Core.Path.{_≡_, sym, _∙_, ap}
 use native.Mathlib.Omega.{arith}
+use lib.ListN.{length, take}
 use lib.Seq.{length-take-le}
-use Rattle.runner.proofs.Judging.{ran-room}
+use lib.Pow.{pow-add}
 use borrow.Author.Needs.{needs}
+use Rattle.takes.specs.Files.{sizeByte}
+use Rattle.runner.proofs.Files.{accepted-file}
+use Rattle.runner.proofs.Judging.{ran-room}
 use Rattle.printing.proofs.play.Statement.{statement}
 use Rattle.printing.proofs.play.Tie as tie
 
@@ -20,22 +24,46 @@ size-for-requires c κs = search needs
 array-borrow-prefix-arena : tie.Need-array-borrow-prefix-arena
 array-borrow-prefix-arena c = search needs
 
-slice-aggregate-run : tie.Need-slice-aggregate-run
-slice-aggregate-run c =
-    sym (length-take-le (c .before .size-for .result) (c .before .before .before .large-buffer .result) (omega (arith, c .before .size-for .ensures, c .before .before .before .large-buffer .ensures)))
+-- the parts of the two buffers that are lent are as long as asked for
+module _ (c : tie.After-size-for) where
+  abbrev size : ℕ
+  size = c .size-for .result
+
+  arena-length : length (take size (c .before .before .large-buffer .result)) ≡ size
+  arena-length =
+      length-take-le size (c .before .before .large-buffer .result) (omega (arith, c .size-for .ensures .0, c .before .before .large-buffer .ensures))
+
+  table-length : length (take (size / 16) (c .before .buffer .result)) ≡ size / 16
+  table-length = length-take-le (size / 16) (c .before .buffer .result) (omega (arith, c .size-for .ensures .0, c .before .buffer .ensures))
+
+slice-aggregate-run-in : tie.Need-slice-aggregate-run-in
+slice-aggregate-run-in c = sym (arena-length (c .before))
 
 array-borrow-prefix-table : tie.Need-array-borrow-prefix-table
 array-borrow-prefix-table c = search needs
 
-slice-aggregate-run-2 : tie.Need-slice-aggregate-run-2
-slice-aggregate-run-2 c =
-    sym (length-take-le (c .before .before .size-for .result / 16) (c .before .before .before .buffer .result) (omega (arith, c .before .before .size-for .ensures, c .before .before .before .buffer .ensures)))
+slice-aggregate-run-in-2 : tie.Need-slice-aggregate-run-in-2
+slice-aggregate-run-in-2 c = sym (table-length (c .before .before))
 
-slice-aggregate-run-3 : tie.Need-slice-aggregate-run-3
-slice-aggregate-run-3 c = search needs
+slice-aggregate-run-in-3 : tie.Need-slice-aggregate-run-in-3
+slice-aggregate-run-in-3 c = search needs
 
-run-requires : tie.Need-run-requires
-run-requires c κs = search needs
+-- a slot for every sixteen bytes
+slots : (m n : ℕ) → n ≡ 2 ^ m → 5 ≤ m → n / 16 ≡ 2 ^ (m - 4)
+slots m n e h =
+    let k : m - 4 + 4 ≡ m = omega arith in
+    let p : 2 ^ m ≡ 2 ^ (m - 4) * 2 ^ 4 = ap (λ (j : ℕ). 2 ^ j) (sym k) ∙ pow-add 2 (m - 4) 4 in
+    omega arith
+
+run-in-requires : tie.Need-run-in-requires
+run-in-requires c κs =
+    let s = c .before .before .before in
+    let file = s .before .before .before .before .args .file .now in
+    record {
+      arena = λ e. arena-length s ∙ s .size-for .ensures .1 e;
+      table = λ e. table-length s ∙ slots (sizeByte file) (size s) (s .size-for .ensures .1 e) (accepted-file file e .head .low);
+      answers = omega arith;
+    }
 
 slice-aggregate-print-pair : tie.Need-slice-aggregate-print-pair
 slice-aggregate-print-pair c = search needs
@@ -58,10 +86,18 @@ print-pair-requires-2 c κs = search needs
 slice-aggregate-print-answers : tie.Need-slice-aggregate-print-answers
 slice-aggregate-print-answers c = search needs
 
+-- the run was accepted, and its answers are lent again
+module _ (c : tie.After-answers3) where
+  abbrev run : tie.After-run-in
+  run = c .before .before .before .before .before .before .before
+
+  answered : 5 * run .run-in .result .count ≤ length (run .run-in .last .1 .1 .1 .0)
+  answered =
+      let r = run .run-in in
+      omega (arith, ran-room _ _ _ (r .result) _ _ _ (r .ensures .0) (c .before .before .before .if1 .left), r .kept .1 .1 .1 .0)
+
 print-answers-requires : tie.Need-print-answers-requires
-print-answers-requires c κs =
-    let r = c .before .before .before .before .before .before .before .run in
-    omega (arith, ran-room _ _ _ (r .result) _ _ _ (r .ensures) (c .before .before .before .if1 .left), r .kept .1 .1 .1 .0)
+print-answers-requires c κs = answered c
 
 slice-aggregate-print-pair-3 : tie.Need-slice-aggregate-print-pair-3
 slice-aggregate-print-pair-3 c = search needs
@@ -83,11 +119,11 @@ play-spec =
     buffer-requires
     size-for-requires
     array-borrow-prefix-arena
-    slice-aggregate-run
+    slice-aggregate-run-in
     array-borrow-prefix-table
-    slice-aggregate-run-2
-    slice-aggregate-run-3
-    run-requires
+    slice-aggregate-run-in-2
+    slice-aggregate-run-in-3
+    run-in-requires
     slice-aggregate-print-pair
     cast-print-pair
     print-pair-requires

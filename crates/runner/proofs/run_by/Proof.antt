@@ -12,8 +12,8 @@ use Rattle.takes.specs.declared.Judgement.{Judgement}
 use Rattle.heap.specs.Views.{slotOrder}
 use Rattle.runner.specs.Runs.{crowded}
 use Rattle.runner.specs.Carrying.{Runnable}
-use Rattle.runner.proofs.Files.{accepted-file}
-use Rattle.runner.proofs.Judging.{judge-refused, Judged, judge-accepted, count-short, screen-full, screen-room, no-screen}
+use Rattle.runner.proofs.Files.{accepted-file, few-records}
+use Rattle.runner.proofs.Judging.{judge-refused, Judged, judge-accepted, screen-full, screen-room, no-screen}
 use Rattle.runner.proofs.Judging.{by-file, by-screen, by-arena, by-table, by-room, run-done}
 use Rattle.runner.proofs.run_by.Statement.{statement}
 use Rattle.runner.proofs.run_by.Tie as tie
@@ -208,7 +208,8 @@ module _ (c : tie.After-slice-known6) where
 cast-count : tie.Need-cast-count
 cast-count c =
     let p = at-screen (past-all c) in
-    omega (arith, count-short (file (lent p)) (found (lent p)) (good (past-file p)))
+    let g = good (past-file p) in
+    omega (arith, few-records (file (lent p)) (g .judged), g .count)
 
 same-length : tie.Need-same-length
 same-length c = search needs

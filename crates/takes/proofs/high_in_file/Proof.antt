@@ -1,56 +1,78 @@
--- `takes::high_in_file` meets its contract. The loop: the columns still to come hold a high register where the whole record does.
-use Prim.Native.Nat.{_-_, _≤_}
+-- `takes::high_in_file` meets its contract. The loop: the fields still to come hold a high register where the whole record does.
+use Prim.Native.Nat.{ℕ, _%_}
+use mathlib.Core.List.{List}
 use mathlib.Core.Path.{_≡_, refl, sym, _∙_, ap}
-use mathlib.Core.Bool.{true, false}
 use native.Mathlib.Omega.{arith}
-use lib.ListN.{drop}
-use Rattle.takes.specs.Operations.{kindsOf}
-use Rattle.takes.specs.Reading.{values, highRegister}
-use Rattle.takes.proofs.Operations.{in-table}
-use Rattle.takes.proofs.Fields.{high-turn, high-none}
-use Rattle.takes.specs.Table.{kindAt, highAt}
+use borrow.Author.Needs.{needs}
+use lib.ListN.{getD, drop}
+use lib.Seq.{drop-drop}
+use Rattle.takes.specs.Operations.{Kind, kindsOf}
+use Rattle.takes.specs.Reading.{operationByte, fieldValues, highRegister}
+use Rattle.takes.specs.Table.{highAt}
+use Rattle.takes.proofs.Rows.{Looking, looking-byte, looking-stop, looking-turn, looking-end}
 use Rattle.takes.proofs.high_in_file.Statement.{statement}
 use Rattle.takes.proofs.high_in_file.Tie as tie
 
+-- the record's kinds
+abbrev kindsAt : List ℕ → ℕ → List Kind
+kindsAt file at = kindsOf (operationByte (drop at file))
+
 abbrev Inv-loop : tie.InvT-loop
-Inv-loop file at op k₀ k = (k ≤ 4) × (highRegister (drop k (kindsOf op)) (drop k (values (kindsOf op) (drop at file))) ≡ highRegister (kindsOf op) (values (kindsOf op) (drop at file)))
+Inv-loop file at kinds left₀ place₀ left place = Looking file (highRegister (kindsAt file at) (fieldValues (drop at file))) left place
 
 abbrev μ-loop : tie.MeasureT-loop
-μ-loop file at op k₀ k = 4 - k
+μ-loop file at kinds left₀ place₀ left place = left
+
+add-place : tie.Need-add-place Inv-loop μ-loop
+add-place c = omega (arith, c .before .pre .1)
 
 loop-holds : tie.Need-loop-holds Inv-loop μ-loop
-loop-holds c = (omega arith, refl)
+loop-holds c =
+    let s = c .before in
+    let f : List ℕ = s .args .file .now in
+    record { rest = kindsAt f (s .args .at); coded = s .pre .0; inside = s .pre .1; same = rw (← drop-drop 2 (s .args .at) f) refl }
 
-field-requires : tie.Need-field-requires Inv-loop μ-loop
-field-requires c κs = omega (arith, in-table (c .before .before .before .args .op) (c .before .before .before .pre .0))
+shared-slice-read-wide : tie.Need-shared-slice-read-wide Inv-loop μ-loop
+shared-slice-read-wide c = looking-byte (c .before .before .loop .inv) (c .before .loop-test .taken)
+
+wide-requires : tie.Need-wide-requires Inv-loop μ-loop
+wide-requires c κs = search needs
 
 is-high-requires : tie.Need-is-high-requires Inv-loop μ-loop
-is-high-requires c κs = omega (arith, in-table (c .before .before .before .before .args .op) (c .before .before .before .before .pre .0))
+is-high-requires c κs = search needs
+
+-- what is known of a field once its byte was looked at
+module _ (c : tie.After-is-high Inv-loop μ-loop) where
+  abbrev turn : tie.In-loop Inv-loop μ-loop
+  turn = c .before .before .before
+
+  abbrev head : tie.At-loop Inv-loop μ-loop
+  head = turn .before
+
+  told : c .is-high .result ≡ highAt (head .loop .left % 16) (getD (head .before .before .args .file .now) (head .loop .place) 0)
+  told = c .is-high .ensures ∙ ap (highAt (head .loop .left % 16)) (c .before .wide .ensures)
 
 returns : tie.Need-returns Inv-loop μ-loop
-returns c =
-    let a = c .before .before .before .before .before .before .args in
-    let l = c .before .before .before .before .loop in
-    sym (high-turn (a .op) (l .k) (values (kindsOf (a .op)) (drop (a .at) (a .file .now))) true (sym (c .if1 .taken) ∙ (c .before .is-high .ensures ∙ ap (highAt (kindAt (a .op) (l .k))) (c .before .before .field .ensures)))) ∙ l .inv .1
+returns c = let h = c .before in looking-stop (head h .loop .inv) (turn h .loop-test .taken) (sym (c .if1 .taken) ∙ told h)
 
-add-k : tie.Need-add-k Inv-loop μ-loop
-add-k c = omega arith
+size-of-requires : tie.Need-size-of-requires Inv-loop μ-loop
+size-of-requires c κs = search needs
+
+add-place-2 : tie.Need-add-place-2 Inv-loop μ-loop
+add-place-2 c =
+    let h = c .before .before in
+    omega (arith, looking-turn (head h .loop .inv) (turn h .loop-test .taken) (c .size-of .result) (c .size-of .ensures) (sym (c .before .if1 .left) ∙ told h))
 
 loop-less : tie.Need-loop-less Inv-loop μ-loop
 loop-less c = omega arith
 
 loop-again : tie.Need-loop-again Inv-loop μ-loop
 loop-again c =
-    let a = c .before .before .before .before .before .before .args in
-    let l = c .before .before .before .before .loop in (
-      omega arith,
-      sym (high-turn (a .op) (l .k) (values (kindsOf (a .op)) (drop (a .at) (a .file .now))) false (sym (c .if1 .left) ∙ (c .before .is-high .ensures ∙ ap (highAt (kindAt (a .op) (l .k))) (c .before .before .field .ensures)))) ∙ l .inv .1,
-    )
+    let h = c .before .before in
+    looking-turn (head h .loop .inv) (turn h .loop-test .taken) (c .size-of .result) (c .size-of .ensures) (sym (c .before .if1 .left) ∙ told h)
 
 returns-2 : tie.Need-returns-2 Inv-loop μ-loop
-returns-2 c =
-    let a = c .before .before .before .args in
-    high-none (a .op) (c .before .loop .k) (omega (arith, in-table (a .op) (c .before .before .before .pre .0))) (values (kindsOf (a .op)) (drop (a .at) (a .file .now))) ∙ c .before .loop .inv .1
+returns-2 c = looking-end (c .before .loop .inv) (c .loop-test .left)
 
 pub high-in-file-spec : {M : Type 1} → statement M
 high-in-file-spec =
@@ -58,11 +80,14 @@ high-in-file-spec =
     (tie.spec
     Inv-loop
     μ-loop
+    add-place
     loop-holds
-    field-requires
+    shared-slice-read-wide
+    wide-requires
     is-high-requires
     returns
-    add-k
+    size-of-requires
+    add-place-2
     loop-less
     loop-again
     returns-2)

@@ -1,6 +1,10 @@
 -- `takes::judge_head` meets its contract: a definition for each return.
 use borrow.Author.Needs.{needs}
 use native.Mathlib.Omega.{arith}
+use mathlib.Core.Path.{_≡_}
+use mathlib.Core.List.{List}
+use Prim.Native.Nat.{ℕ}
+use lib.ListN.{length}
 use Rattle.takes.proofs.Heads.{empty, first-byte, no-size, small, large, long, good}
 use Rattle.takes.proofs.judge_head.Statement.{statement}
 use Rattle.takes.proofs.judge_head.Tie as tie
@@ -14,23 +18,31 @@ shared-slice-read-if2 c = search needs
 returns-2 : tie.Need-returns-2
 returns-2 c = first-byte (c .before .before .before .args .file .now) (c .before .before .if1 .left) (c .if2 .taken)
 
+-- past the tests of the first byte
+module _ (c : tie.Else2) where
+  abbrev file : List ℕ
+  file = c .before .before .before .args .file .now
+
+  some : length file ≡ 0 → ⊥
+  some = c .before .before .if1 .left
+
 returns-3 : tie.Need-returns-3
-returns-3 c = no-size (c .before .before .before .before .args .file .now) (c .before .before .before .if1 .left) (c .before .if2 .left) (c .if3 .taken)
+returns-3 c = let e = c .before in no-size (file e) (some e) (e .if2 .left) (c .if3 .taken)
 
 shared-slice-read-size : tie.Need-shared-slice-read-size
 shared-slice-read-size c = search needs
 
 returns-4 : tie.Need-returns-4
-returns-4 c = small (c .before .before .before .before .before .before .args .file .now) (c .before .before .before .before .before .if1 .left) (c .before .before .before .if2 .left) (omega arith) (c .if4 .taken)
+returns-4 c = let e = c .before .before .before in small (file e) (some e) (e .if2 .left) (omega arith) (c .if4 .taken)
 
 returns-5 : tie.Need-returns-5
-returns-5 c = large (c .before .before .before .before .before .before .before .args .file .now) (c .before .before .before .before .before .before .if1 .left) (c .before .before .before .before .if2 .left) (omega arith) (omega arith) (omega arith)
+returns-5 c = let e = c .before .before .before .before in large (file e) (some e) (e .if2 .left) (omega arith) (omega arith) (omega arith)
 
 returns-6 : tie.Need-returns-6
-returns-6 c = long (c .before .before .before .before .before .before .before .before .args .file .now) (c .before .before .before .before .before .before .before .if1 .left) (c .before .before .before .before .before .if2 .left) (omega arith) (omega arith) (omega arith) (omega arith)
+returns-6 c = let e = c .before .before .before .before .before in long (file e) (some e) (e .if2 .left) (omega arith) (omega arith) (omega arith) (omega arith)
 
 returns-7 : tie.Need-returns-7
-returns-7 c = good (c .before .before .before .before .before .before .before .before .args .file .now) (c .before .before .before .before .before .before .before .if1 .left) (c .before .before .before .before .before .if2 .left) (omega arith) (omega arith) (omega arith) (omega arith)
+returns-7 c = let e = c .before .before .before .before .before in good (file e) (some e) (e .if2 .left) (omega arith) (omega arith) (omega arith) (omega arith)
 
 pub judge-head-spec : {M : Type 1} → statement M
 judge-head-spec =
