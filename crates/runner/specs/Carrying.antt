@@ -1,4 +1,4 @@
--- What the parts of a run's code say to each other: the state of a run, one record carried out on it, and many.
+-- What the parts of a run's code say to each other: the state of a run, one record carried out on it, and many; the registers that a record names.
 use Prim.Native.Nat.{ℕ, _-_, _*_, _/_, _^_, _≤_}
 use mathlib.Core.Path.{_≡_}
 use mathlib.Core.Bool.{cond}
