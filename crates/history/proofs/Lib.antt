@@ -7,6 +7,7 @@ pub mod Gets
 pub mod Stores
 pub mod Simulation
 pub mod Runs
+pub mod Soundness
 pub mod Checking
 pub mod Room
 pub mod Demand3

@@ -14,25 +14,17 @@ use Rattle.heap.specs.Effects.{Outcome}
 use Rattle.heap.specs.Heaps.{Heap, heapOf, heapFresh, freshHeap, outcome}
 use Rattle.heap.specs.Judging.{Sound}
 use Rattle.heap.specs.declared.Answer.{Answer}
-use Rattle.history.specs.Ledgers.{Ledger, ledgerStep, emptyLedger}
-use Rattle.history.proofs.Agreement.{Agree}
-use Rattle.history.proofs.Simulation.{agree-sound}
-use Rattle.history.proofs.Runs.{fresh-agree, fresh-made, call-same}
+use Rattle.history.proofs.Runs.{fresh-made}
+use Rattle.history.proofs.Soundness.{SoundHeap, fresh-sound, call-sound}
 use Rattle.runner.specs.Registers.{registersAtFirst, callOf}
 use Rattle.runner.specs.Carrying.{State, stateOf, atFirst, oneRecord, allRecords, Runnable, operandsOf}
 use Rattle.runner.proofs.Files.{accepted-file}
 use Rattle.runner.proofs.Records.{all-next, all-none, low-registers}
 
--- a heap that some ledger agrees with: what a list of calls from a fresh heap leaves
-pub record Kept (m : ℕ) (h : Heap) : Type 0 where
-  pub ledger : Ledger
-  pub agree : Agree m h ledger
-
 -- what is still to come from here gives what the whole run gives
 pub record Going (m : ℕ) (file out₀ a t rs out : List ℕ) (at place : ℕ) : Type 0 where
-  pub low : 5 ≤ m
-  pub high : m ≤ 16
-  pub kept : Kept m (heapOf a t)
+  -- the table is undamaged, so a run never scans it
+  pub sound : Sound m a t
   pub good : walkFrom file at .number ≡ 0
   pub room : place + 5 * length (walkFrom file at .records) ≤ length out
   pub sixteen : length rs ≡ 16
@@ -48,9 +40,7 @@ going-start m file a t out a′ t′ rs x r e z =
     let high : m ≤ 16 = omega (arith, f .head .high, r .same) in
     let h : heapOf a′ t′ ≡ freshHeap m = ap (λ (o : Outcome Heap). o .state) e ∙ fresh-made m (heapOf a t) low high (r .size) (r .slots) in
     record {
-      low = low;
-      high = high;
-      kept = subst (Kept m) (sym h) (record { ledger = emptyLedger m; agree = fresh-agree m });
+      sound = subst (SoundHeap m) (sym h) (fresh-sound m low high);
       good = f .records;
       room = omega (arith, r .room);
       sixteen = ap length z;
@@ -59,10 +49,6 @@ going-start m file a t out a′ t′ rs x r e z =
     }
 
 module _ {m : ℕ} {file out₀ a t rs out : List ℕ} {at place : ℕ} (g : Going m file out₀ a t rs out at place) where
-  -- the table is undamaged, so a run never scans it
-  pub going-sound : Sound m a t
-  going-sound = agree-sound m (g .low) (g .high) (heapOf a t) (g .kept .ledger) (g .kept .agree)
-
   pub going-end : length file ≤ at → stateOf a t rs out ≡ allRecords (recordsOf file) 0 (atFirst m out₀)
   going-end h =
       let e : walkFrom file at ≡ ended 0 = from-end file at h in
@@ -92,12 +78,8 @@ module _ {m : ℕ} {file out₀ a t rs out : List ℕ} {at place : ℕ} (g : Goi
       pub going-step : (a′ t′ rs′ out′ : List ℕ) → stateOf a′ t′ rs′ out′ ≡ oneRecord r place (stateOf a t rs out)
           → length rs′ ≡ length rs → length out′ ≡ length out → Going m file out₀ a′ t′ rs′ out′ next (place + 5)
       going-step a′ t′ rs′ out′ q k l =
-          let s = call-same m (g .low) (g .high) (heapOf a t) (g .kept .ledger) (g .kept .agree) (callOf rs r) in
           record {
-            low = g .low;
-            high = g .high;
-            kept = subst (Kept m) (sym (ap (λ (s : State). s .heap) q))
-                (record { ledger = ledgerStep m (callOf rs r) (g .kept .ledger) .state; agree = s .agree });
+            sound = subst (SoundHeap m) (sym (ap (λ (s : State). s .heap) q)) (call-sound m (heapOf a t) (g .sound) (callOf rs r));
             good = sym (ap (λ (w : Walk). w .number) to-come) ∙ g .good;
             room = omega (arith, going-room);
             sixteen = k ∙ g .sixteen;

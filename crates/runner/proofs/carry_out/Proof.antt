@@ -13,7 +13,7 @@ use Rattle.runner.specs.Registers.{held, callOf, registersAfter}
 use Rattle.runner.specs.Carrying.{stateOf, oneRecord, operandsOf, callWith, storedIn}
 use Rattle.runner.specs.declared.registers.Operands.{Operands}
 use Rattle.runner.proofs.Records.{call-with, stored-in, one-record}
-use Rattle.runner.proofs.Running.{Going, going-start, going-sound, going-good, going-low, going-room, going-further, going-step, going-end}
+use Rattle.runner.proofs.Running.{Going, going-start, going-good, going-low, going-room, going-further, going-step, going-end}
 use Rattle.runner.proofs.carry_out.Statement.{statement}
 use Rattle.runner.proofs.carry_out.Tie as tie
 
@@ -134,7 +134,7 @@ module _ (c : tie.After-call-with Inv-loop μ-loop) where
       ∙ (ap (λ (r : Operands). callWith (held (rs loop) (r .a)) (held (rs loop) (r .b)) item) (named .operands-of .ensures) ∙ call-with (rs loop) item)
 
 carry-out-one-requires : tie.Need-carry-out-one-requires Inv-loop μ-loop
-carry-out-one-requires c κs = (going-sound (loop c .loop .inv), room (next c))
+carry-out-one-requires c κs = (loop c .loop .inv .sound, room (next c))
 
 -- past the call: the state that it leaves once the value is in its register
 module _ (c : tie.After-carry-out-one Inv-loop μ-loop) where
@@ -168,7 +168,7 @@ module _ (c : tie.After-carry-out-one Inv-loop μ-loop) where
     left =
         one-record (start from .args .m) (from .loop .arena) (from .loop .table) (rs from) (from .loop .answers) (item called) (from .loop .place)
         (called .call-with .result) x arena table rs′ answers
-        (going-sound (from .loop .inv)) (call-is called) (c .carry-out-one .ensures .0) registers-are (c .carry-out-one .ensures .1)
+        (from .loop .inv .sound) (call-is called) (c .carry-out-one .ensures .0) registers-are (c .carry-out-one .ensures .1)
 
     on : Going (start from .args .m) (file from) (start from .args .answers .now) arena table rs′ answers (next called .next .result) (from .loop .place + 5)
     on =
@@ -212,10 +212,10 @@ loop-again-2 c =
     (sym (set-out (rs l) (t .stored-in .result) (made t .carry-out-one .result .value) (omega (arith, c .if1 .left, l .loop .inv .sixteen))))
 
 same-length : tie.Need-same-length Inv-loop μ-loop
-same-length c = going-sound (c .before .loop .inv) .size ∙ sym (start (c .before) .pre .size)
+same-length c = c .before .loop .inv .sound .size ∙ sym (start (c .before) .pre .size)
 
 same-length-2 : tie.Need-same-length-2 Inv-loop μ-loop
-same-length-2 c = going-sound (c .before .loop .inv) .slots ∙ sym (start (c .before) .pre .slots)
+same-length-2 c = c .before .loop .inv .sound .slots ∙ sym (start (c .before) .pre .slots)
 
 same-length-3 : tie.Need-same-length-3 Inv-loop μ-loop
 same-length-3 c = c .before .loop .inv .same

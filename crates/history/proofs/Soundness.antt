@@ -1,0 +1,83 @@
+-- Every sound heap, whatever calls left it, agrees with a ledger: the pairs are the blocks that its table reads back as, the bytes its arena.
+-- So a call leaves a sound heap sound.
+use Prim.Native.Nat.{ℕ, suc, _+_, _*_, _%_, _^_, _-_, _≤_}
+use mathlib.Core.Path.{_≡_, refl, _∙_, ap}
+use mathlib.Core.Bool.{Bool, true, false, not, cond, _&&_}
+use mathlib.Core.List.{List, [], _∷_, List·Memᴰ, List·Memᴰ·head, List·Memᴰ·tail}
+use native.Mathlib.Nat.{add-suc, suc-add, add-mul, suc-mul}
+use native.Mathlib.Omega.{arith}
+use lib.Dec.{eqb}
+use lib.Pow.{pow-pos}
+use Rattle.blocks.specs.Blocks.{base, Block, holds}
+use Rattle.blocks.specs.Sets.{BlockSet, referentOf, blocksFrom, blocksOf}
+use Rattle.blocks.specs.declared.Referent.the-variants.{Missing}
+use Rattle.blocks.proofs.OneTable.{one-table}
+use Rattle.blocks.proofs.Reading.{read-out}
+use Rattle.blocks.proofs.Sets.{none-missing}
+use Rattle.blocks.proofs.Slots.{block}
+use Rattle.heap.specs.Views.{slotOrder}
+use Rattle.heap.specs.Heaps.{Heap, heapCall, freshHeap}
+use Rattle.heap.specs.Judging.{Sound}
+use Rattle.heap.specs.declared.Call.{Call}
+use Rattle.history.specs.Ledgers.{Ledger, emptyLedger}
+use Rattle.history.proofs.Agreement.{Proper, none, more, Agree}
+use Rattle.history.proofs.Simulation.{agree-sound}
+use Rattle.history.proofs.Runs.{fresh-agree, call-same}
+
+-- the blocks read after slot i start past it
+read-later : (t i : ℕ) (s : List ℕ) (b c : Block) → b .start ≡ base + i * 2 ^ t → List·Memᴰ c (blocksFrom t (suc i) s) → b ≡ c → ⊥
+read-later t i s b c e j q =
+    let r = read-out t c (suc i) s j in
+    let a : suc i + r .at ≡ i + suc (r .at) = rw (suc-add, add-suc) in
+    let p : (suc i + r .at) * 2 ^ t ≡ i * 2 ^ t + (r .at * 2 ^ t + 2 ^ t) =
+    ap (λ (x : ℕ). x * 2 ^ t) a ∙ add-mul i (suc (r .at)) (2 ^ t) ∙ ap (λ (x : ℕ). i * 2 ^ t + x) (suc-mul (r .at) (2 ^ t)) in
+    omega (arith, r .start, pow-pos t, ap (λ (x : Block). x .start) q)
+
+-- A table's blocks are read by rising starts, so no block comes twice, and each stands apart from those after it.
+reads-proper : (t m i : ℕ) (s : List ℕ) → BlockSet t m (blocksFrom t i s) → Proper t m (blocksFrom t i s)
+unfolding blocksFrom
+reads-proper t m i [] set = none
+reads-proper t m i (e ∷ s) set = go (not (eqb e 0) && eqb (i % 2 ^ (e - t)) 0) set (reads-proper t m (suc i) s)
+  where
+    b : Block
+    b = block (base + i * 2 ^ t) e
+
+    rest : List Block
+    rest = blocksFrom t (suc i) s
+
+    apart : BlockSet t m (b ∷ rest) → (q : ℕ) → holds b q ≡ true → referentOf rest q ≡ Missing
+    apart set q h = none-missing rest q (λ c j. unheld c j (holds c q) refl)
+      where
+        unheld : (c : Block) → List·Memᴰ c rest → (u : Bool) → holds c q ≡ u → u ≡ false
+        unheld c j true k = absurd (read-later t i s b c refl j (set .apart b c (List·Memᴰ·head refl) (List·Memᴰ·tail j) q h k))
+        unheld c j false k = refl
+
+    go : (u : Bool) → BlockSet t m (cond u (b ∷ rest) rest) → (BlockSet t m rest → Proper t m rest) → Proper t m (cond u (b ∷ rest) rest)
+    go true set ih =
+        more (set .aligned b (List·Memᴰ·head refl)) (apart set)
+        (ih (record { aligned = λ c j. set .aligned c (List·Memᴰ·tail j); apart = λ c d i j. set .apart c d (List·Memᴰ·tail i) (List·Memᴰ·tail j) }))
+    go false set ih = ih set
+
+-- what a heap reads back as
+abbrev pub readLedger : Heap → Ledger
+readLedger h = record { pairs = blocksOf slotOrder (h .table); bytes = h .arena }
+
+abbrev pub SoundHeap : ℕ → Heap → Type 0
+SoundHeap m h = Sound m (h .arena) (h .table)
+
+pub sound-agree : (m : ℕ) (h : Heap) → SoundHeap m h → Agree m h (readLedger h)
+sound-agree m h s =
+    let one = one-table slotOrder m (omega arith) (omega (arith, s .low)) in
+    record {
+      bytes = refl;
+      size = s .size;
+      table = one .is-table (h .table) (s .slots) (s .whole);
+      proper = reads-proper slotOrder m 0 (h .table) (one .is-set (h .table) (s .slots) (s .whole));
+    }
+
+pub fresh-sound : (m : ℕ) → 5 ≤ m → m ≤ 16 → SoundHeap m (freshHeap m)
+fresh-sound m five top = agree-sound m five top (freshHeap m) (emptyLedger m) (fresh-agree m)
+
+-- any call, refused or not
+pub call-sound : (m : ℕ) (h : Heap) → SoundHeap m h → (c : Call) → SoundHeap m (heapCall c h .state)
+call-sound m h s c = agree-sound m (s .low) (s .high) _ _ (call-same m (s .low) (s .high) h (readLedger h) (sound-agree m h s) c .agree)
