@@ -15,7 +15,7 @@ use Rattle.heap.specs.declared.Call.{Call}
 use Rattle.heap.specs.declared.Call.the-variants.{Get, Give, Step, Read, Write, Left, Copy, Fill}
 use Rattle.history.specs.Ledgers.{Ledger, ledgerView, without, kept, ledgerStep, emptyLedger}
 use Rattle.history.specs.Runs.{run}
-use Rattle.history.specs.Histories.{gives, givenIn, gotThen, liveBy}
+use Rattle.history.specs.Histories.{gives, givesBack, givenIn, gotThen, liveBy}
 
 -- the blocks whose start no accepted give among the calls names
 remains : List Call → List Answer → List Block → List Block
@@ -54,7 +54,7 @@ module _ (m : ℕ) (cs : List Call) (xs : List Answer) where
   after-call c x bs = remains (c ∷ cs) (x ∷ xs) bs ++ gotThen m c x (givenIn (x .value) cs xs) (liveBy m cs xs)
 
   -- where the call gave nothing back, the later ones alone decide what remains
-  stays : (c : Call) (x : Answer) → ((s : ℕ) → gives c s && eqb (x .number) 0 ≡ false) → (bs later : List Block) → remains (c ∷ cs) (x ∷ xs) bs ++ later ≡ remains cs xs bs ++ later
+  stays : (c : Call) (x : Answer) → ((s : ℕ) → givesBack s c x ≡ false) → (bs later : List Block) → remains (c ∷ cs) (x ∷ xs) bs ++ later ≡ remains cs xs bs ++ later
   unfolding givenIn
   stays c x h bs later = ap (λ (r : List Block). r ++ later) (remains-same (c ∷ cs) cs (x ∷ xs) xs bs (λ s. rw (h s)))
 

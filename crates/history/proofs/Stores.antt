@@ -1,5 +1,5 @@
 -- What an accepted call stores: bytes at one place, which lie in the arena.
-use Prim.Native.Nat.{ℕ, _+_, _-_, _*_, _^_, _≤_, _<_}
+use Prim.Native.Nat.{ℕ, _+_, _-_, _^_, _≤_, _<_}
 use mathlib.Core.Path.{_≡_, refl, sym, _∙_, ap}
 use mathlib.Core.Bool.{false, false≢true}
 use mathlib.Core.List.{List, []}
@@ -58,22 +58,40 @@ module _ (m : ℕ) (big : slotOrder ≤ m) (l : Ledger) (proper : Proper slotOrd
   unfolding sought
   plain p k = rw k
 
-  -- the part of the referent from p on lies in the arena
-  left-fits : (p : ℕ) → marked p ≡ false → dead w p ≡ false → (p - base) + leftFrom w p ≤ 2 ^ m
-  left-fits p n d = go (referentOfPointer w p) (plain p n) d
+  -- the pair that a plain pointer refers to, the bytes from the pointer to that pair's end, and that they lie in the arena
+  pub record Home (p : ℕ) : Type 0 where
+    pub start : ℕ
+    pub order : ℕ
+    pub found : referentOf bs p ≡ Found start order
+    pub left : leftFrom w p ≡ start + 2 ^ order - p
+    pub above : base ≤ start
+    pub low : start ≤ p
+    pub high : p < start + 2 ^ order
+    pub inside : start + 2 ^ order ≤ base + 2 ^ m
+
+  pub home : (p : ℕ) → marked p ≡ false → dead w p ≡ false → Home p
+  home p n d = go (referentOfPointer w p) (plain p n) d
     where
-      go : (x : Referent) → referentOf bs p ≡ x → missing x ≡ false → (p - base) + leftIn x p ≤ 2 ^ m
+      go : (x : Referent) → referentOf bs p ≡ x → missing x ≡ false → Home p
       go Missing q k = absurd (false≢true (sym k))
       go (Found s e) q k =
           let a : Aligned slotOrder m (block s e) = found-aligned slotOrder m bs (proper-set proper) p s e q in
           let held = found-member bs p s e q .held in
-          let lo : s ≤ p = held-low (block s e) p held in
-          let hi : p < s + 2 ^ e = held-high (block s e) p held in
-          let st : s ≡ base + a .index * 2 ^ e = a .place in
-          let ins : s + 2 ^ e ≤ base + 2 ^ m = a .inside in
-          omega arith
+          record {
+            start = s;
+            order = e;
+            found = q;
+            left = ap (λ (x : Referent). leftIn x p) (sym (plain p n) ∙ q);
+            above = omega (arith, a .place);
+            low = held-low (block s e) p held;
+            high = held-high (block s e) p held;
+            inside = a .inside;
+          }
 
-  pub store : (c : Call) → first (rules m c w) ≡ 0 → Store m c w
+  pub left-fits : (p : ℕ) → Home p → (p - base) + leftFrom w p ≤ 2 ^ m
+  left-fits p h = omega (arith, h .left, h .above, h .low, h .high, h .inside)
+
+  unfoldable pub store : (c : Call) → first (rules m c w) ≡ 0 → Store m c w
   unfolding rules argumentRules stateRules stored copied
   store (Get n) z =
       let a = got-placed m big l proper n z .aligned in
@@ -94,7 +112,7 @@ module _ (m : ℕ) (big : slotOrder ≤ m) (l : Ledger) (proper : Proper slotOrd
       record {
         at = p - base;
         count = k;
-        fits = omega (arith, left-fits p (c 13) (c 22), ltb-false (leftFrom w p) k (c 25));
+        fits = omega (arith, left-fits p (home p (c 13) (c 22)), ltb-false (leftFrom w p) k (c 25));
         bytes = λ b. bytesOf k v;
         counted = λ b e. length-bytesOf k v;
         stores = λ b. refl;
@@ -103,8 +121,8 @@ module _ (m : ℕ) (big : slotOrder ≤ m) (l : Ledger) (proper : Proper slotOrd
   store (Copy p q n) z =
       let c = clear (rules m (Copy p q n) w) refl z in
       let k : ℕ = copyCount w p q n in
-      let to : (p - base) + leftFrom w p ≤ 2 ^ m = left-fits p (or-false-left _ _ (c 13)) (or-false-left _ _ (c 22)) in
-      let from : (q - base) + leftFrom w q ≤ 2 ^ m = left-fits q (or-false-right (marked p) _ (c 13)) (or-false-right (dead w p) _ (c 22)) in
+      let to : (p - base) + leftFrom w p ≤ 2 ^ m = left-fits p (home p (or-false-left _ _ (c 13)) (or-false-left _ _ (c 22))) in
+      let from : (q - base) + leftFrom w q ≤ 2 ^ m = left-fits q (home q (or-false-right (marked p) _ (c 13)) (or-false-right (dead w p) _ (c 22))) in
       record {
         at = p - base;
         count = k;
@@ -119,7 +137,7 @@ module _ (m : ℕ) (big : slotOrder ≤ m) (l : Ledger) (proper : Proper slotOrd
       record {
         at = p - base;
         count = k;
-        fits = omega (arith, left-fits p (c 13) (c 22));
+        fits = omega (arith, left-fits p (home p (c 13) (c 22)));
         bytes = λ b. replicate k v;
         counted = λ b e. length-replicate k v;
         stores = λ b. refl;

@@ -22,11 +22,15 @@ gives (Left p) s = false
 gives (Copy p q n) s = false
 gives (Fill p v n) s = false
 
+-- the call gives back the block that starts at s
+abbrev pub givesBack : ℕ → Call → Answer → Bool
+givesBack s c x = gives c s && eqb (x .number) 0
+
 -- an accepted give of s is among the calls
 unfoldable pub givenIn : ℕ → List Call → List Answer → Bool
 givenIn s [] xs = false
 givenIn s (c ∷ cs) [] = false
-givenIn s (c ∷ cs) (x ∷ xs) = gives c s && eqb (x .number) 0 || givenIn s cs xs
+givenIn s (c ∷ cs) (x ∷ xs) = givesBack s c x || givenIn s cs xs
 
 -- the block that an accepted get gave, in front of the later ones, unless its start is given back after that get
 abbrev pub gotThen : ℕ → Call → Answer → Bool → List Block → List Block
