@@ -87,7 +87,7 @@ unfolding rules
 rules-first m c w = ap (cond (w .wrong-sizes) 8) (first-append (argumentRules m c) (20 when w .damaged ∷ stateRules m c w) (arguments-positive m c))
 
 -- where none applies
-pub judging-clear : (b : Bool) (n : ℕ) (d : Bool) (rs : List Refusal) → first (judging b n d rs) ≡ 0 → (b ≡ false) × (n ≡ 0) × (d ≡ false) × (first rs ≡ 0)
+judging-clear : (b : Bool) (n : ℕ) (d : Bool) (rs : List Refusal) → first (judging b n d rs) ≡ 0 → (b ≡ false) × (n ≡ 0) × (d ≡ false) × (first rs ≡ 0)
 judging-clear b n d rs z = go b (eqb n 0) refl d z
   where
     go : (b e : Bool) → eqb n 0 ≡ e → (d : Bool) → cond b 8 (cond (not e) n (cond d 20 (first rs))) ≡ 0 → (b ≡ false) × (n ≡ 0) × (d ≡ false) × (first rs ≡ 0)
@@ -191,6 +191,15 @@ module _ (m : ℕ) (c : Call) (a t : List ℕ) (z : Ready m c a t) where
   pub step-accepted : first (stateRules m c w) ≡ 0 → outcome (answer 0 (value m c w a)) (stored m c w a) (entered m c w t) ≡ heapStep m c (heapOf a t)
   unfolding heapStep
   step-accepted q = rw (ready-first, q)
+
+-- a call that is not refused
+pub accepted-ready : (c : Call) (a t : List ℕ) → first (rules (orderOf (length a)) c (viewOf (heapOf a t))) ≡ 0
+    → Ready (orderOf (length a)) c a t × (first (stateRules (orderOf (length a)) c (viewOf (heapOf a t))) ≡ 0)
+accepted-ready c a t z =
+    let m : ℕ = orderOf (length a) in
+    let w : View = viewOf (heapOf a t) in
+    let (x, u, d, g) = judging-clear (w .wrong-sizes) (first (argumentRules m c)) (w .damaged) (stateRules m c w) (sym (rules-first m c w) ∙ z) in
+    (record { sound = sized-sound a t (fits-sized a t (not-false _ x)) d; arguments = u }, g)
 
 -- What the order m that the code computes says of the lengths.
 pub record Ordered (a t : List ℕ) (m : ℕ) : Type 0 where

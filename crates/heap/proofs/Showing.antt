@@ -4,7 +4,7 @@ use mathlib.Core.Path.{_≡_, refl, sym, _∙_, ap}
 use mathlib.Core.Bool.{Bool, true, false, cond, false≢true}
 use mathlib.Core.List.{List, []}
 use native.Mathlib.Omega.{arith}
-use borrow.Author.Tests.{eqb-true, eq-eqb, ne-eqb, not-false}
+use borrow.Author.Tests.{eqb-true, eq-eqb, ne-eqb}
 use lib.Dec.{eqb}
 use lib.ListN.{length, take, drop}
 use Rattle.common.specs.Refusals.{first}
@@ -12,15 +12,14 @@ use Rattle.blocks.specs.Blocks.{base, missing, leftIn}
 use Rattle.blocks.specs.Orders.{orderOf}
 use Rattle.blocks.specs.declared.Referent.{Referent}
 use Rattle.blocks.specs.declared.Referent.the-variants.{Missing, Found}
-use Rattle.heap.specs.Views.{View, referentOfPointer}
-use Rattle.heap.specs.Rules.{argumentRules, stateRules, rules}
+use Rattle.heap.specs.Views.{referentOfPointer}
+use Rattle.heap.specs.Rules.{argumentRules, stateRules}
 use Rattle.heap.specs.Effects.{value, leftFrom, settled}
-use Rattle.heap.specs.Heaps.{Heap, heapOf, heapView, viewOf, heapStep, heapCall, pointerNumber, shown, shownByLeft, shownFrom, outcome}
+use Rattle.heap.specs.Heaps.{Heap, heapOf, viewOf, heapStep, heapCall, pointerNumber, shown, shownByLeft, shownFrom, outcome}
 use Rattle.heap.specs.Judging.{Ready}
 use Rattle.heap.specs.declared.Answer.{Answer}
-use Rattle.heap.specs.declared.Call.{Call}
 use Rattle.heap.specs.declared.Call.the-variants.{Left}
-use Rattle.heap.proofs.Judging.{clear, rules-first, judging-clear, argument-clear, fits-sized, sized-sound}
+use Rattle.heap.proofs.Judging.{clear, argument-clear, accepted-ready}
 use Rattle.heap.proofs.Accesses.{plain-within}
 
 settled-number : {S : Type 0} (k v : ℕ) (old new : S) → settled k old v new .answer .number ≡ k
@@ -51,19 +50,6 @@ module _ (p : ℕ) (h : Heap) where
           ≡ cond b (take (heapCall (Left p) h .answer .value) (drop (p - base) (h .arena))) []
       go true e = ap (λ (n : ℕ). take n (drop (p - base) (h .arena))) (sym (left-value (eqb-true _ _ e)))
       go false e = refl
-
--- A call that is not refused.
-module _ (c : Call) (a t : List ℕ) where
-  abbrev m : ℕ
-  m = orderOf (length a)
-
-  abbrev v : View
-  v = heapView m (heapOf a t)
-
-  accepted-ready : first (rules m c v) ≡ 0 → Ready m c a t × (first (stateRules m c v) ≡ 0)
-  accepted-ready z =
-      let (x, u, d, g) = judging-clear (v .wrong-sizes) (first (argumentRules m c)) (v .damaged) (stateRules m c v) (sym (rules-first m c v) ∙ z) in
-      (record { sound = sized-sound a t (fits-sized a t (not-false _ x)) d; arguments = u }, g)
 
 module _ (p : ℕ) (a t : List ℕ) (r : Answer) (e : outcome r a t ≡ heapCall (Left p) (heapOf a t)) where
   abbrev h : Heap
