@@ -26,17 +26,17 @@ impl Tally {
     }
 }
 
-/// Both heaps of a case.
-struct Twins {
+/// The heap of one case, lent to each of two implementations.
+struct Case {
     arenas: [Lent; 2],
     tables: [Lent; 2],
 }
 
-impl Twins {
-    fn new(rng: &mut Rng, arena: &[u8], table: &[u8]) -> Twins {
+impl Case {
+    fn new(rng: &mut Rng, arena: &[u8], table: &[u8]) -> Case {
         let arena = Lent::new(rng, arena);
         let table = Lent::new(rng, table);
-        Twins { arenas: [arena.clone(), arena], tables: [table.clone(), table] }
+        Case { arenas: [arena.clone(), arena], tables: [table.clone(), table] }
     }
 
     fn compare(&self, what: &str) {
@@ -52,7 +52,7 @@ fn same_buffer(name: &str, pair: &[Lent; 2], what: &str) {
 }
 
 /// Buffers of an arena of order m; one case in eight has a wrong length.
-fn buffers(rng: &mut Rng, m: u32) -> (Vec<u8>, Vec<u8>) {
+pub fn buffers(rng: &mut Rng, m: u32) -> (Vec<u8>, Vec<u8>) {
     let mut arena = if rng.once_in(4) { vec![0; 1 << m] } else { rng.bytes(1 << m) };
     let mut table = random::any_table(rng, m);
     if rng.once_in(8) {
@@ -87,14 +87,14 @@ pub fn plain_c_calls(rng: &mut Rng, lists: u32, largest: u32) -> Tally {
 }
 
 /// Makes one call on both heaps of an order, with pointers that are known, and gives the answer's number.
-type MakeOne = fn(&mut Rng, &mut Twins, u32, &mut Vec<u32>, &str) -> u32;
+type MakeOne = fn(&mut Rng, &mut Case, u32, &mut Vec<u32>, &str) -> u32;
 
 fn call_lists(rng: &mut Rng, lists: u32, largest: u32, names: &str, make_one: MakeOne) -> Tally {
     let mut tally = Tally::default();
     for list in 0..lists {
         let m = rng.arena_order(largest);
         let (arena, table) = buffers(rng, m);
-        let mut heaps = Twins::new(rng, &arena, &table);
+        let mut heaps = Case::new(rng, &arena, &table);
         let mut known = Vec::new();
         let length = if m > 10 { 8 } else { rng.within(1, 40) };
         for index in 0..length {
@@ -106,8 +106,8 @@ fn call_lists(rng: &mut Rng, lists: u32, largest: u32, names: &str, make_one: Ma
     tally
 }
 
-fn one_call<A: Subject, B: Subject>(rng: &mut Rng, heaps: &mut Twins, m: u32, known: &mut Vec<u32>, what: &str) -> u32 {
-    let Twins { arenas: [a0, a1], tables: [t0, t1] } = heaps;
+fn one_call<A: Subject, B: Subject>(rng: &mut Rng, heaps: &mut Case, m: u32, known: &mut Vec<u32>, what: &str) -> u32 {
+    let Case { arenas: [a0, a1], tables: [t0, t1] } = heaps;
     match rng.below(16) {
         0 if rng.once_in(3) => {
             let answers = [A::fresh(a0.bytes_mut(), t0.bytes_mut()), B::fresh(a1.bytes_mut(), t1.bytes_mut())];
@@ -144,8 +144,8 @@ fn one_call<A: Subject, B: Subject>(rng: &mut Rng, heaps: &mut Twins, m: u32, kn
     }
 }
 
-fn one_plain_c_call(rng: &mut Rng, heaps: &mut Twins, m: u32, known: &mut Vec<u32>, what: &str) -> u32 {
-    let Twins { arenas: [a0, a1], tables: [t0, t1] } = heaps;
+fn one_plain_c_call(rng: &mut Rng, heaps: &mut Case, m: u32, known: &mut Vec<u32>, what: &str) -> u32 {
+    let Case { arenas: [a0, a1], tables: [t0, t1] } = heaps;
     let p = random::pointer(rng, t0.bytes(), known);
     let n = random::amount(rng, m);
     let i = random::distance(rng, m);
@@ -178,7 +178,7 @@ pub fn runs<A: Subject, B: Subject>(rng: &mut Rng, caller: Caller, files: u32, l
         let most = rng.pick(&[0, 4, 30, 120]);
         let file = random::file(rng, m, most);
         let (arena, table) = buffers(rng, m);
-        let mut heaps = Twins::new(rng, &arena, &table);
+        let mut heaps = Case::new(rng, &arena, &table);
         let needed = 5 * crate::plain::takes::judge(&file).map_or(most as usize, |(_, count)| count);
         let room = match rng.below(8) {
             0 => needed.saturating_sub(rng.within(1, 5) as usize),
@@ -190,7 +190,7 @@ pub fn runs<A: Subject, B: Subject>(rng: &mut Rng, caller: Caller, files: u32, l
         let mut answers = [out.clone(), out];
         let lent = Lent::new(rng, &file);
         let before = lent.clone();
-        let Twins { arenas: [a0, a1], tables: [t0, t1] } = &mut heaps;
+        let Case { arenas: [a0, a1], tables: [t0, t1] } = &mut heaps;
         let [o0, o1] = &mut answers;
         let first = caller.run::<A>(lent.bytes(), a0.bytes_mut(), t0.bytes_mut(), o0.bytes_mut());
         let second = caller.run::<B>(lent.bytes(), a1.bytes_mut(), t1.bytes_mut(), o1.bytes_mut());
@@ -229,9 +229,9 @@ pub fn replays<A: Subject, B: Subject>(rng: &mut Rng, lists: u32, largest: u32) 
         let content = rng.bytes(room);
         let out = Lent::new(rng, &content);
         let mut outs = [out.clone(), out];
-        let mut heaps = Twins::new(rng, &arena, &table);
+        let mut heaps = Case::new(rng, &arena, &table);
         let calls = Lent::new(rng, &list);
-        let Twins { arenas: [a0, a1], tables: [t0, t1] } = &mut heaps;
+        let Case { arenas: [a0, a1], tables: [t0, t1] } = &mut heaps;
         let [o0, o1] = &mut outs;
         let first = A::replay(a0.bytes_mut(), t0.bytes_mut(), calls.bytes(), o0.bytes_mut());
         let second = B::replay(a1.bytes_mut(), t1.bytes_mut(), calls.bytes(), o1.bytes_mut());

@@ -4,6 +4,11 @@ use crate::call::Call;
 use crate::plain::heap::{BASE, MARK};
 use crate::plain::takes::{self, Record};
 
+/// How many times as many cases to make, by environment variable TULIVOMBE_TIMES.
+pub fn times() -> u32 {
+    std::env::var("TULIVOMBE_TIMES").map_or(1, |text| text.parse().expect("TULIVOMBE_TIMES is a number"))
+}
+
 /// xorshift64*.
 #[derive(Clone)]
 pub struct Rng(u64);

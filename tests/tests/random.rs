@@ -4,13 +4,9 @@
 use tulivombe_tests::ledger;
 use tulivombe_tests::literal::Literal;
 use tulivombe_tests::plain::heap;
-use tulivombe_tests::random::{any_table, Rng};
+use tulivombe_tests::random::{any_table, times, Rng};
 use tulivombe_tests::subject::{Caller, Plain, Subject};
 use tulivombe_tests::{differential, history};
-
-fn times() -> u32 {
-    std::env::var("TULIVOMBE_TIMES").map_or(1, |text| text.parse().expect("TULIVOMBE_TIMES is a number"))
-}
 
 /// `S` and `T` on the same input: `cases` lists of calls, runs and files read, in arenas up to order `largest`.
 fn compare<S: Subject, T: Subject>(name: &str, cases: u32, largest: u32) {
