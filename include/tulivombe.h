@@ -16,6 +16,9 @@
  *
  * Answers. `number` is 0 or says why the call was refused; a refused call has value 0 and changes
  * nothing. Where several reasons apply, the first of the call's list ("Refused: ..") is given.
+ *
+ * Guests. The bytes of one block can be kept from a guest who makes calls on the same heap: docs/MANUAL.md,
+ * "A hidden block", says which calls to hold back.
  */
 #ifndef TULIVOMBE_H
 #define TULIVOMBE_H

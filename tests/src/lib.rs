@@ -13,4 +13,5 @@ pub mod plain;
 pub mod plain_c;
 pub mod random;
 pub mod subject;
+pub mod twins;
 pub mod vectors;

@@ -1,7 +1,11 @@
--- Tests joined by `&&` and `||`, and equal tests.
-use mathlib.Core.Path.{_≡_, refl, sym}
+-- Tests joined by `&&` and `||`, equal tests, and the test for 0.
+use Prim.Native.Nat.{ℕ, suc}
+use mathlib.Core.Path.{_≡_, refl, sym, _∙_}
 use mathlib.Core.Bool.{Bool, true, false, _&&_, _||_, true≢false, false≢true}
 use mathlib.Core.Logic.{_⊎_, inl, inr}
+use native.Mathlib.Omega.{arith}
+use lib.Dec.{eqb}
+use borrow.Author.Tests.{ne-eqb}
 
 pub and-left : (a b : Bool) → a && b ≡ true → a ≡ true
 and-left true b h = refl
@@ -17,6 +21,10 @@ and-both p q = rw (p, q)
 pub and-false-cases : (a b : Bool) → a && b ≡ false → (a ≡ false) ⊎ (b ≡ false)
 and-false-cases true b h = inr h
 and-false-cases false b h = inl refl
+
+pub and-false-left : (a b : Bool) → a && b ≡ false → b ≡ true → a ≡ false
+and-false-left true b h e = sym e ∙ h
+and-false-left false b h e = refl
 
 pub or-right : (a : Bool) {b : Bool} → b ≡ true → a || b ≡ true
 or-right true h = refl
@@ -35,3 +43,10 @@ or-false-left false b h = refl
 pub or-false-right : (a b : Bool) → a || b ≡ false → b ≡ false
 or-false-right true b h = absurd (true≢false h)
 or-false-right false b h = h
+
+pub or-true-right : (a b : Bool) → a || b ≡ true → a ≡ false → b ≡ true
+or-true-right true b h e = absurd (true≢false e)
+or-true-right false b h e = h
+
+pub eqb-suc : (n : ℕ) → eqb (suc n) 0 ≡ false
+eqb-suc n = ne-eqb (suc n) 0 (λ z. omega arith)

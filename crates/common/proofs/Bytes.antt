@@ -1,12 +1,13 @@
 -- Laws of a list that is written over.
-use Prim.Native.Nat.{ℕ, zero, suc, _+_, _-_, _/_, _%_, _≤_, _<_}
-use mathlib.Core.Path.{_≡_, refl, sym, _∙_, ap, subst}
+use Prim.Native.Nat.{ℕ, zero, suc, _+_, _-_, _*_, _/_, _%_, _≤_, _<_}
+use mathlib.Core.Path.{_≡_, refl, sym, _∙_, ap, ap₂, subst}
 use mathlib.Core.List.{List, [], _∷_, _++_, append-assoc, append-nil}
+use native.Mathlib.Decide.{decLt}
 use native.Mathlib.Omega.{arith}
 use native.Mathlib.Nat.{add-zero, zero-add}
 use lib.ListN.{length, getD, set, take, drop, length-append, length-drop, length-set, take-append-drop, drop-of-length-le, List·getD-append}
 use lib.Seq.{getD-append-add, getD-take, getD-drop, length-take-le, take-take, take-append-le, drop-at, drop-set-lt, take-suc-set}
-use Rattle.common.specs.Bytes.{bytesOf, over}
+use Rattle.common.specs.Bytes.{bigEndian, bytesOf, over}
 
 pub over-none : (l : List ℕ) (at : ℕ) → over l at [] ≡ l
 unfolding over
@@ -84,3 +85,25 @@ pub length-bytesOf : (w v : ℕ) → length (bytesOf w v) ≡ w
 unfolding bytesOf
 length-bytesOf zero v = refl
 length-bytesOf (suc w) v = length-append (bytesOf w (v / 256)) (v % 256 ∷ []) ∙ (ap (λ (n : ℕ). n + 1) (length-bytesOf w (v / 256)) ∙ omega arith)
+
+-- ---- two lists that are equal at some places
+
+pub bigEndian-same : (l r : List ℕ) (at w : ℕ) → ((j : ℕ) → j < w → getD l (at + j) 0 ≡ getD r (at + j) 0) → bigEndian l at w ≡ bigEndian r at w
+unfolding bigEndian
+bigEndian-same l r at zero h = refl
+bigEndian-same l r at (suc w) h = ap₂ (λ (x y : ℕ). x * 256 + y) (bigEndian-same l r at w (λ j k. h j (omega arith))) (h w (omega arith))
+
+-- written over at one place, they are equal at i if what is written there is, or what stays there
+pub over-same : (l r : List ℕ) (at : ℕ) (xs ys : List ℕ) → length xs ≡ length ys → at + length xs ≤ length l → at + length ys ≤ length r → (i : ℕ)
+    → ((j : ℕ) → j < length xs → at + j ≡ i → getD xs j 0 ≡ getD ys j 0) → ((at ≤ i → i < at + length xs → ⊥) → getD l i 0 ≡ getD r i 0)
+    → getD (over l at xs) i 0 ≡ getD (over r at ys) i 0
+over-same l r at xs ys e f g i new old = go (decLt i at) (decLt i (at + length xs))
+  where
+    go : Dec (i < at) → Dec (i < at + length xs) → getD (over l at xs) i 0 ≡ getD (over r at ys) i 0
+    go (yes u) d = over-before l at xs f i u ∙ old (λ x y. omega arith) ∙ sym (over-before r at ys g i u)
+    go (no u) (yes v) =
+        let j : ℕ = i - at in
+        let p : at + j ≡ i = omega arith in
+        subst (λ (k : ℕ). getD (over l at xs) k 0 ≡ getD (over r at ys) k 0) p
+        (over-in l at xs f j (omega arith) ∙ new j (omega arith) p ∙ sym (over-in r at ys g j (omega arith)))
+    go (no u) (no v) = over-after l at xs f i (omega arith) ∙ old (λ x y. omega arith) ∙ sym (over-after r at ys g i (omega arith))

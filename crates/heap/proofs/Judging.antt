@@ -11,7 +11,7 @@ use lib.ListN.{length, replicate, length-replicate}
 use Rattle.common.specs.Refusals.{Refusal, _when_, first}
 use Rattle.common.specs.Bytes.{over}
 use Rattle.common.proofs.Bytes.{over-whole}
-use Rattle.blocks.proofs.Booleans.{and-left, and-right, and-both}
+use Rattle.blocks.proofs.Booleans.{and-left, and-right, and-both, eqb-suc}
 use Rattle.blocks.proofs.Floors.{pow-split}
 use Rattle.blocks.proofs.Orders.{order-sound, order-power}
 use Rattle.blocks.specs.Tables.{damagedBy}
@@ -218,7 +218,7 @@ order-slots o n = let s = o .sized n in (omega (arith, s .low), s .high, s .slot
 
 order-sizes : {a t : List ℕ} {m : ℕ} → Ordered a t m → heapView m (heapOf a t) .wrong-sizes ≡ eqb m 0
 order-sizes {m = zero} o = refl
-order-sizes {a = a} {t = t} {m = suc m} o = sizes-right a t (o .sized (λ z. omega arith)) ∙ sym (ne-eqb (suc m) 0 (λ z. omega arith))
+order-sizes {a = a} {t = t} {m = suc m} o = sizes-right a t (o .sized (λ z. omega arith)) ∙ sym (eqb-suc m)
 
 order-rules : {a t : List ℕ} {m : ℕ} (c : Call) → Ordered a t m
     → first (rules m c (heapView m (heapOf a t))) ≡ first (rules (orderOf (length a)) c (viewOf (heapOf a t)))

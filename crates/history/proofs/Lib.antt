@@ -1,4 +1,4 @@
--- What the proof of demand 3 is made of.
+-- What the proofs of demand 3, of replay and of noninterference are made of.
 pub mod Agreement
 pub mod Live
 pub mod Pairs
@@ -7,10 +7,14 @@ pub mod Gets
 pub mod Stores
 pub mod Simulation
 pub mod Runs
-pub mod Soundness
 pub mod Checking
 pub mod Room
 pub mod Demand3
 pub mod Encoding
 pub mod Answers
 pub mod Replaying
+pub mod Soundness
+pub mod Hiding
+pub mod Sources
+pub mod Noninterference
+pub mod Examples

@@ -3,11 +3,11 @@ use Prim.Native.Nat.{ℕ, zero, suc}
 use mathlib.Core.Path.{_≡_, refl, sym, _∙_, ap}
 use mathlib.Core.Bool.{Bool, true, false, cond, _&&_, _||_, and-false}
 use mathlib.Core.List.{List, [], _∷_, _++_, append-nil, append-assoc}
-use native.Mathlib.Omega.{arith}
 use lib.Dec.{eqb}
 use borrow.Author.Tests.{eqb-true, eqb-false, eq-eqb, ne-eqb}
 use Rattle.common.specs.Refusals.{first}
 use Rattle.blocks.specs.Blocks.{Block}
+use Rattle.blocks.proofs.Booleans.{eqb-suc}
 use Rattle.heap.specs.Rules.{rules}
 use Rattle.heap.specs.Effects.{value, stored, settled}
 use Rattle.heap.specs.declared.Answer.{Answer}
@@ -54,19 +54,17 @@ module _ (m : ℕ) (cs : List Call) (xs : List Answer) where
   after-call c x bs = remains (c ∷ cs) (x ∷ xs) bs ++ gotThen m c x (givenIn (x .value) cs xs) (liveBy m cs xs)
 
   -- where the call gave nothing back, the later ones alone decide what remains
-  stays : (c : Call) (x : Answer) → ((s : ℕ) → givesBack s c x ≡ false) → (bs later : List Block) → remains (c ∷ cs) (x ∷ xs) bs ++ later ≡ remains cs xs bs ++ later
+  stays : (c : Call) (x : Answer) → ((s : ℕ) → givesBack s c x ≡ false) → (bs later : List Block)
+      → remains (c ∷ cs) (x ∷ xs) bs ++ later ≡ remains cs xs bs ++ later
   unfolding givenIn
   stays c x h bs later = ap (λ (r : List Block). r ++ later) (remains-same (c ∷ cs) cs (x ∷ xs) xs bs (λ s. rw (h s)))
 
   refused : (c : Call) (n : ℕ) (bs : List Block) → after-call c (record { number = suc n; value = 0 }) bs ≡ remains cs xs bs ++ liveBy m cs xs
   refused c n bs =
-      stays c _ (λ s. rw (nonzero, and-false (gives c s))) bs _ ∙ ap (λ (r : List Block). remains cs xs bs ++ r) (nothing c)
+      stays c _ (λ s. rw (eqb-suc n, and-false (gives c s))) bs _ ∙ ap (λ (r : List Block). remains cs xs bs ++ r) (nothing c)
     where
-      nonzero : eqb (suc n) 0 ≡ false
-      nonzero = ne-eqb (suc n) 0 (λ q. omega arith)
-
       nothing : (c : Call) → gotThen m c (record { number = suc n; value = 0 }) (givenIn 0 cs xs) (liveBy m cs xs) ≡ liveBy m cs xs
-      nothing (Get k) = rw nonzero
+      nothing (Get k) = rw (eqb-suc n)
       nothing (Give p) = refl
       nothing (Step p i) = refl
       nothing (Read p k) = refl

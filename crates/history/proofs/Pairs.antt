@@ -89,6 +89,14 @@ without-in (more {b} {bs} a d r) p e q h = go (without-in r p e q) (eqb (b .star
     go ih true false x w k = ih k
     go ih false false x w k = rw w (ih k)
 
+-- an address that has a referent had one before
+pub without-live : {t m : ℕ} {bs : List Block} → Proper t m bs → (p q : ℕ) → missing (referentOf (without p bs) q) ≡ false → missing (referentOf bs q) ≡ false
+without-live {bs = bs} r p q k = go (referentOf bs q) refl
+  where
+    go : (x : Referent) → referentOf bs q ≡ x → missing x ≡ false
+    go Missing h = absurd (false≢true (sym k ∙ ap missing (without-none r p q h)))
+    go (Found s e) h = refl
+
 -- an address that no block which starts at p holds
 pub without-out : {t m : ℕ} {bs : List Block} → Proper t m bs → (p q : ℕ) → ((e : ℕ) → referentOf bs q ≡ Found p e → ⊥) → referentOf (without p bs) q ≡ referentOf bs q
 unfolding referentOf without
@@ -124,6 +132,18 @@ added-in (b ∷ bs) c q n h = go (holds b q) refl n (added-in bs c q)
         → cond u (Found (b .start) (b .order)) (referentOf (bs ++ (c ∷ [])) q) ≡ Found (c .start) (c .order)
     go true w k ih = found-not-missing k refl
     go false w k ih = ih k h
+
+-- an address that has a referent keeps it
+pub added-found : (bs : List Block) (c : Block) (q s e : ℕ) → referentOf bs q ≡ Found s e → referentOf (bs ++ (c ∷ [])) q ≡ Found s e
+unfolding referentOf
+added-found [] c q s e h = found-not-missing refl h
+added-found (b ∷ bs) c q s e h = go (holds b q) h (added-found bs c q s e)
+  where
+    go : (u : Bool) → cond u (Found (b .start) (b .order)) (referentOf bs q) ≡ Found s e
+        → (referentOf bs q ≡ Found s e → referentOf (bs ++ (c ∷ [])) q ≡ Found s e)
+        → cond u (Found (b .start) (b .order)) (referentOf (bs ++ (c ∷ [])) q) ≡ Found s e
+    go true k ih = k
+    go false k ih = ih k
 
 pub added-out : (bs : List Block) (c : Block) (q : ℕ) → holds c q ≡ false → referentOf (bs ++ (c ∷ [])) q ≡ referentOf bs q
 unfolding referentOf

@@ -161,7 +161,7 @@ module _ (m : ℕ) (big : slotOrder ≤ m) (l : Ledger) (proper : Proper slotOrd
   accepted-paired (Fill p v n) z = record { table = refl; still = proper }
 
 -- an accepted call leaves the two in agreement
-accepted-agree : (m : ℕ) → slotOrder ≤ m → (h : Heap) (l : Ledger) → Agree m h l → (c : Call) → first (rules m c (ledgerView l)) ≡ 0
+pub accepted-agree : (m : ℕ) → slotOrder ≤ m → (h : Heap) (l : Ledger) → Agree m h l → (c : Call) → first (rules m c (ledgerView l)) ≡ 0
     → Agree m (heapOf (stored m c (ledgerView l) (h .arena)) (entered m c (ledgerView l) (h .table)))
     (record { pairs = kept m c (ledgerView l) (l .pairs); bytes = stored m c (ledgerView l) (l .bytes) })
 accepted-agree m big h l g c z =

@@ -1,4 +1,4 @@
--- Every sound heap, whatever calls left it, agrees with a ledger: the pairs are the blocks that its table reads back as, the bytes its arena.
+-- Every sound heap, whatever made it, agrees with a ledger: the pairs are the blocks that its table reads back as, the bytes its arena.
 -- So a call leaves a sound heap sound.
 use Prim.Native.Nat.{ℕ, suc, _+_, _*_, _%_, _^_, _-_, _≤_}
 use mathlib.Core.Path.{_≡_, refl, _∙_, ap}
@@ -16,12 +16,12 @@ use Rattle.blocks.proofs.Reading.{read-out}
 use Rattle.blocks.proofs.Sets.{none-missing}
 use Rattle.blocks.proofs.Slots.{block}
 use Rattle.heap.specs.Views.{slotOrder}
-use Rattle.heap.specs.Heaps.{Heap, heapCall, freshHeap}
+use Rattle.heap.specs.Heaps.{Heap, heapView, heapCall, freshHeap}
 use Rattle.heap.specs.Judging.{Sound}
 use Rattle.heap.specs.declared.Call.{Call}
-use Rattle.history.specs.Ledgers.{Ledger, emptyLedger}
+use Rattle.history.specs.Ledgers.{Ledger, ledgerView, emptyLedger}
 use Rattle.history.proofs.Agreement.{Proper, none, more, Agree}
-use Rattle.history.proofs.Simulation.{agree-sound}
+use Rattle.history.proofs.Simulation.{view-same, agree-sound}
 use Rattle.history.proofs.Runs.{fresh-agree, call-same}
 
 -- the blocks read after slot i start past it
@@ -74,6 +74,10 @@ sound-agree m h s =
       table = one .is-table (h .table) (s .slots) (s .whole);
       proper = reads-proper slotOrder m 0 (h .table) (one .is-set (h .table) (s .slots) (s .whole));
     }
+
+-- it looks to every rule as those pairs do
+pub sound-view : (m : ℕ) (h : Heap) → SoundHeap m h → heapView m h ≡ ledgerView (readLedger h)
+sound-view m h s = view-same m (s .low) (s .high) h (readLedger h) (sound-agree m h s)
 
 pub fresh-sound : (m : ℕ) → 5 ≤ m → m ≤ 16 → SoundHeap m (freshHeap m)
 fresh-sound m five top = agree-sound m five top (freshHeap m) (emptyLedger m) (fresh-agree m)

@@ -1,7 +1,7 @@
 -- What an accepted call stores: bytes at one place, which lie in the arena.
 use Prim.Native.Nat.{ℕ, _+_, _-_, _^_, _≤_, _<_}
 use mathlib.Core.Path.{_≡_, refl, sym, _∙_, ap}
-use mathlib.Core.Bool.{false, false≢true}
+use mathlib.Core.Bool.{true, false, false≢true}
 use mathlib.Core.List.{List, []}
 use native.Mathlib.Omega.{arith}
 use lib.ListN.{length, replicate, take, drop, length-replicate, length-drop}
@@ -10,7 +10,7 @@ use borrow.Author.Tests.{ltb-false}
 use Rattle.common.specs.Refusals.{first}
 use Rattle.common.specs.Bytes.{over, bytesOf, copied}
 use Rattle.common.proofs.Bytes.{over-none, length-over, length-bytesOf}
-use Rattle.blocks.specs.Blocks.{base, Block, Aligned, missing, leftIn}
+use Rattle.blocks.specs.Blocks.{base, Block, holds, Aligned, missing, leftIn}
 use Rattle.blocks.specs.Sets.{referentOf}
 use Rattle.blocks.specs.Pointers.{marked, sought}
 use Rattle.blocks.specs.Orders.{neededOrder}
@@ -28,7 +28,7 @@ use Rattle.heap.proofs.Judging.{clear}
 use Rattle.history.specs.Ledgers.{Ledger, ledgerView}
 use Rattle.history.proofs.Agreement.{Proper}
 use Rattle.history.proofs.Gets.{got, got-placed}
-use Rattle.history.proofs.Pairs.{proper-set}
+use Rattle.history.proofs.Pairs.{holds-by, proper-set}
 
 -- The bytes may depend on those before; their place and number do not.
 pub record Store (m : ℕ) (c : Call) (w : View) : Type 0 where
@@ -90,6 +90,10 @@ module _ (m : ℕ) (big : slotOrder ≤ m) (l : Ledger) (proper : Proper slotOrd
 
   pub left-fits : (p : ℕ) → Home p → (p - base) + leftFrom w p ≤ 2 ^ m
   left-fits p h = omega (arith, h .left, h .above, h .low, h .high, h .inside)
+
+  -- each byte from p to the pair's end is one of the pair's
+  pub home-holds : (p : ℕ) (h : Home p) (j : ℕ) → j < leftFrom w p → holds (block (h .start) (h .order)) (p + j) ≡ true
+  home-holds p h j v = holds-by (block (h .start) (h .order)) (p + j) (omega (arith, h .low)) (omega (arith, h .left))
 
   unfoldable pub store : (c : Call) → first (rules m c w) ≡ 0 → Store m c w
   unfolding rules argumentRules stateRules stored copied

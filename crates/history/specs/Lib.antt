@@ -3,3 +3,4 @@ pub mod Runs
 pub mod Histories
 pub mod Demand3
 pub mod Replaying
+pub mod Noninterference
