@@ -45,9 +45,9 @@ unfolding bigEndian bytesOf over copied floor any torn bad damagedBy referentIn 
 results cs h = run heapCall cs h
 
 -- the list has no barred call before the hidden block is given back
-passes : (Call → Answer → Bool) → List Call → Heap → Bool
+unbarred : (Call → Answer → Bool) → List Call → Heap → Bool
 unfolding noneBarred any results
-passes barred cs h = noneBarred barred (hidden .start) cs (results cs h .answers)
+unbarred barred cs h = noneBarred barred (hidden .start) cs (results cs h .answers)
 
 abbrev by-bytes : Call → Answer → Bool
 by-bytes = reveals hidden
@@ -55,7 +55,7 @@ by-bytes = reveals hidden
 abbrev by-pointers : Call → Answer → Bool
 by-pointers c x = sourceIn hidden c
 
--- ---- what two lists give
+-- ---- what lists give, that reveal the block and that do not
 
 -- A copy within the block, one of 0 bytes out of it, a read that goes past its end and a write into it are free by their bytes. Then it is given back, and a
 -- smaller block is got in its place: that one is clean, and the rest of the old range still differs.
@@ -71,23 +71,23 @@ their-answers =
 
 Untold : ℕ → Type 0
 Untold x =
-    (passes by-bytes given-back (heap x) ≡ true) × (passes by-pointers given-back (heap x) ≡ false)
+    (unbarred by-bytes given-back (heap x) ≡ true) × (unbarred by-pointers given-back (heap x) ≡ false)
     × (results given-back (heap x)
     ≡ record { answers = their-answers; last = heapOf (replicate 16 0 ++ (replicate 16 x ++ (0 ∷ 0 ∷ replicate 30 9))) (4 ∷ 0 ∷ 5 ∷ 5 ∷ []) })
 
 untold : Untold 1 × Untold 2
-unfolding Untold passes results given-back their-answers
+unfolding Untold unbarred results given-back their-answers
 untold = ((refl, refl, refl), (refl, refl, refl))
 
 -- a read that shows a byte of the block, and a copy that carries one out, are barred, and tell the two heaps apart
 Told : ℕ → Type 0
 Told x =
-    (passes by-bytes (Read 65538 1 ∷ []) (heap x) ≡ false) × (results (Read 65538 1 ∷ []) (heap x) .answers ≡ answer 0 x ∷ [])
-    × (passes by-bytes (Copy 65568 65567 2 ∷ []) (heap x) ≡ false)
+    (unbarred by-bytes (Read 65538 1 ∷ []) (heap x) ≡ false) × (results (Read 65538 1 ∷ []) (heap x) .answers ≡ answer 0 x ∷ [])
+    × (unbarred by-bytes (Copy 65568 65567 2 ∷ []) (heap x) ≡ false)
     × (results (Copy 65568 65567 2 ∷ []) (heap x) .last .arena ≡ replicate 32 x ++ (x ∷ replicate 31 9))
 
 told : Told 1 × Told 2
-unfolding Told passes results
+unfolding Told unbarred results
 told = ((refl, refl, refl, refl), (refl, refl, refl, refl))
 
 -- ---- the claim used, on a list that never gives the block back
@@ -120,19 +120,19 @@ guest : List Call
 guest = Get 1 ∷ Step 65536 40 ∷ Read 65568 2 ∷ Write 65537 1 7 ∷ Left 65540 ∷ Copy 65536 65568 4 ∷ Fill 65540 3 2 ∷ Give 65568 ∷ []
 
 guest-by-bytes : Undisclosed hidden (heap 1) (heap 2) guest
-unfolding results passes guest
+unfolding results unbarred guest
 guest-by-bytes =
-    let free : passes by-bytes guest (heap 1) ≡ true = refl in
+    let free : unbarred by-bytes guest (heap 1) ≡ true = refl in
     noninterference .by-bytes hidden (heap 1) (heap 2) guest twins free
 
 guest-by-pointers : Undisclosed hidden (heap 1) (heap 2) guest
-unfolding results passes guest
+unfolding results unbarred guest
 guest-by-pointers =
-    let free : passes by-pointers guest (heap 1) ≡ true = refl in
+    let free : unbarred by-pointers guest (heap 1) ≡ true = refl in
     noninterference .by-pointers hidden (heap 1) (heap 2) guest twins free
 
 guest-on-damage : Undisclosed hidden (damaged-heap 1) (damaged-heap 2) guest
-unfolding results passes guest
+unfolding results unbarred guest
 guest-on-damage =
-    let free : passes by-bytes guest (damaged-heap 1) ≡ true = refl in
+    let free : unbarred by-bytes guest (damaged-heap 1) ≡ true = refl in
     noninterference .by-bytes hidden (damaged-heap 1) (damaged-heap 2) guest damaged-twins free
