@@ -3,6 +3,7 @@ use Prim.Native.Nat.{ℕ, _+_, _≤_}
 use mathlib.Core.Path.{_≡_, refl, sym, _∙_, ap, ap₂}
 use mathlib.Core.Bool.{Bool, true, false, cond}
 use mathlib.Core.List.{List, [], _∷_}
+use mathlib.Core.Option.{Option, none, some}
 use native.Mathlib.Omega.{arith}
 use lib.Dec.{eqb}
 use lib.ListN.{length, set}
@@ -24,9 +25,10 @@ use Rattle.heap.specs.Answers.{answerBytes}
 use Rattle.heap.specs.declared.Answer.{Answer}
 use Rattle.heap.specs.declared.Call.{Call}
 use Rattle.history.proofs.Answers.{answers-next, answers-none}
-use Rattle.runner.specs.Registers.{held, callOf, target, put, registersAfter}
+use Rattle.runner.specs.Registers.{put}
+use Rattle.runner.specs.Decoding.{decoded, callOf, registersAfter}
 use Rattle.runner.specs.Runs.{Carried, carryOut}
-use Rattle.runner.specs.Carrying.{State, stateOf, oneRecord, allRecords, operandsOf, callWith, storedIn}
+use Rattle.runner.specs.Carrying.{State, stateOf, oneRecord, allRecords, indexOf, operandsOf, storedIn}
 
 pub all-next : (r : Record) (rest : List Record) (place : ℕ) (s : State) → place + 5 ≤ length (s .answers)
     → allRecords (r ∷ rest) place s ≡ allRecords rest (place + 5) (oneRecord r place s)
@@ -39,17 +41,6 @@ all-next r rest place s h =
 pub all-none : (place : ℕ) (s : State) → allRecords [] place s ≡ s
 unfolding carryOut
 all-none place s = ap (λ (l : List ℕ). record { heap = s .heap; registers = s .registers; answers = l }) (answers-none (s .answers) place)
-
--- The code takes single values from the registers, and puts one back: a line for each operation.
-pub call-with : (rs : List ℕ) (r : Record) → callWith (held rs (operandsOf r .a)) (held rs (operandsOf r .b)) r ≡ callOf rs r
-call-with rs (get d n) = refl
-call-with rs (give a) = refl
-call-with rs (step d a i) = refl
-call-with rs (read d a w) = refl
-call-with rs (write a w v) = refl
-call-with rs (left d a) = refl
-call-with rs (copy d a b n) = refl
-call-with rs (fill d a v n) = refl
 
 -- a register that a record of the file takes from is one of the sixteen
 pub low-registers : (r : Record) → highRegister (kindsOf (operation r)) (fields r) ≡ false → (operandsOf r .a ≤ 15) × (operandsOf r .b ≤ 15)
@@ -67,22 +58,16 @@ low-registers (fill d a v n) h = (low-field (kindsOf 8) (fields (fill d a v n)) 
 put-none : (rs : List ℕ) (v : ℕ) → length rs ≡ 16 → set rs 16 v ≡ rs
 put-none rs v l = set-out rs 16 v (omega arith)
 
-put-operand : (r : Record) (v : ℕ) (rs : List ℕ) → length rs ≡ 16 → set rs (operandsOf r .d) v ≡ put (target r) v rs
-put-operand (get d n) v rs l = refl
-put-operand (give a) v rs l = put-none rs v l
-put-operand (step d a i) v rs l = refl
-put-operand (read d a w) v rs l = refl
-put-operand (write a w x) v rs l = put-none rs v l
-put-operand (left d a) v rs l = refl
-put-operand (copy d a b n) v rs l = refl
-put-operand (fill d a x n) v rs l = refl
+put-index : (o : Option ℕ) (v : ℕ) (rs : List ℕ) → length rs ≡ 16 → set rs (indexOf o) v ≡ put o v rs
+put-index none v rs l = put-none rs v l
+put-index (some d) v rs l = refl
 
 pub stored-in : (r : Record) (x : Answer) (rs : List ℕ) → length rs ≡ 16 → set rs (storedIn (operandsOf r .d) x) (x .value) ≡ registersAfter r x rs
 unfolding registersAfter
 stored-in r x rs l = go (eqb (x .number) 0)
   where
-    go : (b : Bool) → set rs (cond b (operandsOf r .d) 16) (x .value) ≡ cond b (put (target r) (x .value) rs) rs
-    go true = put-operand r (x .value) rs l
+    go : (b : Bool) → set rs (cond b (operandsOf r .d) 16) (x .value) ≡ cond b (put (decoded r .d) (x .value) rs) rs
+    go true = put-index (decoded r .d) (x .value) rs l
     go false = put-none rs (x .value) l
 
 -- what the code does for one record

@@ -16,7 +16,8 @@ use Rattle.heap.specs.Judging.{Sound}
 use Rattle.heap.specs.declared.Answer.{Answer}
 use Rattle.history.proofs.Runs.{fresh-made}
 use Rattle.history.proofs.Soundness.{SoundHeap, fresh-sound, call-sound}
-use Rattle.runner.specs.Registers.{registersAtFirst, callOf}
+use Rattle.runner.specs.Registers.{registersAtFirst}
+use Rattle.runner.specs.Decoding.{callOf}
 use Rattle.runner.specs.Carrying.{State, stateOf, atFirst, oneRecord, allRecords, Runnable, operandsOf}
 use Rattle.runner.proofs.Files.{accepted-file}
 use Rattle.runner.proofs.Records.{all-next, all-none, low-registers}

@@ -3,20 +3,18 @@ use Prim.Native.Nat.{ℕ, _-_, _*_, _/_, _^_, _≤_}
 use mathlib.Core.Path.{_≡_}
 use mathlib.Core.Bool.{cond}
 use mathlib.Core.List.{List}
+use mathlib.Core.Option.{Option, none, some}
 use lib.Dec.{eqb}
 use lib.ListN.{length}
 use Rattle.common.specs.Bytes.{over}
 use Rattle.takes.specs.Files.{headLength, longest, sizeByte, fileNumber, recordsOf}
 use Rattle.takes.specs.declared.Record.{Record}
-use Rattle.takes.specs.declared.Record.the-variants.{Get as get, Give as give, Step as step, Read as read}
-use Rattle.takes.specs.declared.Record.the-variants.{Write as write, Left as left, Copy as copy, Fill as fill}
 use Rattle.heap.specs.Views.{slotOrder}
 use Rattle.heap.specs.Heaps.{Heap, heapOf, heapCall, freshHeap}
 use Rattle.heap.specs.Answers.{answerBytes, answersBytes}
 use Rattle.heap.specs.declared.Answer.{Answer}
-use Rattle.heap.specs.declared.Call.{Call}
-use Rattle.heap.specs.declared.Call.the-variants.{Get, Give, Step, Read, Write, Left, Copy, Fill}
-use Rattle.runner.specs.Registers.{registersAtFirst, callOf, registersAfter}
+use Rattle.runner.specs.Registers.{registersAtFirst}
+use Rattle.runner.specs.Decoding.{decoded, callOf, registersAfter}
 use Rattle.runner.specs.Runs.{carryOut, RunOutcome}
 use Rattle.runner.specs.declared.Ran.{Ran}
 use Rattle.runner.specs.declared.registers.Operands.{Operands}
@@ -62,27 +60,14 @@ mostRecords = (longest - headLength) / 2
 abbrev pub ranTo : Ran → List ℕ → List ℕ → List ℕ → RunOutcome
 ranTo r a t out = record { number = r .number; registers = r .registers .values; count = r .count; heap = heapOf a t; answers = out }
 
--- The registers that a record names: a and b, 0 where it has none, and d, 16 where it has none.
-abbrev pub operandsOf : Record → Operands
-operandsOf (get d n) = record { a = 0; b = 0; d = d }
-operandsOf (give a) = record { a = a; b = 0; d = 16 }
-operandsOf (step d a i) = record { a = a; b = 0; d = d }
-operandsOf (read d a w) = record { a = a; b = 0; d = d }
-operandsOf (write a w v) = record { a = a; b = 0; d = 16 }
-operandsOf (left d a) = record { a = a; b = 0; d = d }
-operandsOf (copy d a b n) = record { a = a; b = b; d = d }
-operandsOf (fill d a v n) = record { a = a; b = 0; d = d }
+-- a register's index, or 16, which no register has
+abbrev pub indexOf : Option ℕ → ℕ
+indexOf none = 16
+indexOf (some d) = d
 
--- its call with the values p and q in a and b
-abbrev pub callWith : ℕ → ℕ → Record → Call
-callWith p q (get d n) = Get n
-callWith p q (give a) = Give p
-callWith p q (step d a i) = Step p i
-callWith p q (read d a w) = Read p w
-callWith p q (write a w v) = Write p w v
-callWith p q (left d a) = Left p
-callWith p q (copy d a b n) = Copy p q n
-callWith p q (fill d a v n) = Fill p v n
+-- the registers of a record by their indices
+abbrev pub operandsOf : Record → Operands
+operandsOf r = record { a = decoded r .a; b = decoded r .b; d = indexOf (decoded r .d) }
 
 -- the register that its value goes to: 16, which is none, where it was refused
 abbrev pub storedIn : ℕ → Answer → ℕ

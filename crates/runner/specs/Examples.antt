@@ -18,7 +18,7 @@ use Rattle.takes.specs.Operations.{known, kindsOf}
 use Rattle.takes.specs.Records.{recordOf}
 use Rattle.takes.specs.Reading.{readRules, readBytes}
 use Rattle.takes.specs.Files.{walk, headNumber, fileNumber, recordsOf}
-use Rattle.runner.specs.Registers.{registersAfter}
+use Rattle.runner.specs.Decoding.{registersAfter}
 use Rattle.runner.specs.Runs.{carryOut, RunOutcome, runBy, runOf, panelOf}
 
 worked : List ℕ

@@ -1,4 +1,5 @@
 pub mod Registers
+pub mod Decoding
 pub mod Runs
 pub mod Panel
 pub mod Carrying

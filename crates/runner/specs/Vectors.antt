@@ -16,7 +16,8 @@ use Rattle.takes.specs.Operations.{known, kindsOf}
 use Rattle.takes.specs.Records.{recordOf}
 use Rattle.takes.specs.Reading.{readRules, readBytes}
 use Rattle.takes.specs.Files.{walk, headNumber, fileNumber, recordsOf, sizeByte}
-use Rattle.runner.specs.Registers.{registersAtFirst, registersAfter}
+use Rattle.runner.specs.Registers.{registersAtFirst}
+use Rattle.runner.specs.Decoding.{registersAfter}
 use Rattle.runner.specs.Runs.{carryOut}
 
 -- the answers as the lines that takerun prints: number and value

@@ -5,7 +5,8 @@ use takes::Record;
 ghost use mathlib.Core.Path.{_≡_};
 ghost use lib.ListN.{set};
 ghost use Rattle.runner.specs.Registers.{registersAtFirst, putTo, putNumber, putIn};
-ghost use Rattle.runner.specs.Carrying.{operandsOf, callWith, storedIn};
+ghost use Rattle.runner.specs.Decoding.{decoded};
+ghost use Rattle.runner.specs.Carrying.{operandsOf, storedIn};
 
 #[repr(C)]
 pub struct Registers {
@@ -60,7 +61,7 @@ pub fn operands_of(item: Record) -> Operands
 
 // The call that a record makes, p and q being the values in its registers a and b.
 pub fn call_with(item: Record, p: u32, q: u32) -> Call
-    ensures { λ c. ⌜ c ≡ callWith p q item ⌝ }
+    ensures { λ c. ⌜ c ≡ decoded item .call p q ⌝ }
 {
     match item {
         Record::Get(_, n) => Call::Get(n),

@@ -9,10 +9,11 @@ use lib.ListN.{length, set, length-set}
 use lib.Seq.{set-out}
 use Rattle.takes.specs.declared.Record.{Record}
 use Rattle.heap.specs.declared.Answer.{Answer}
-use Rattle.runner.specs.Registers.{held, callOf, registersAfter}
-use Rattle.runner.specs.Carrying.{stateOf, oneRecord, operandsOf, callWith, storedIn}
+use Rattle.runner.specs.Registers.{held}
+use Rattle.runner.specs.Decoding.{decoded, callOf, registersAfter}
+use Rattle.runner.specs.Carrying.{stateOf, oneRecord, operandsOf, storedIn}
 use Rattle.runner.specs.declared.registers.Operands.{Operands}
-use Rattle.runner.proofs.Records.{call-with, stored-in, one-record}
+use Rattle.runner.proofs.Records.{stored-in, one-record}
 use Rattle.runner.proofs.Running.{Going, going-start, going-good, going-low, going-room, going-further, going-step, going-end}
 use Rattle.runner.proofs.carry_out.Statement.{statement}
 use Rattle.runner.proofs.carry_out.Tie as tie
@@ -131,7 +132,7 @@ module _ (c : tie.After-call-with Inv-loop μ-loop) where
   call-is : c .call-with .result ≡ callOf (rs loop) item
   call-is =
       c .call-with .ensures
-      ∙ (ap (λ (r : Operands). callWith (held (rs loop) (r .a)) (held (rs loop) (r .b)) item) (named .operands-of .ensures) ∙ call-with (rs loop) item)
+      ∙ ap (λ (r : Operands). decoded item .call (held (rs loop) (r .a)) (held (rs loop) (r .b))) (named .operands-of .ensures)
 
 carry-out-one-requires : tie.Need-carry-out-one-requires Inv-loop μ-loop
 carry-out-one-requires c κs = (loop c .loop .inv .sound, room (next c))
