@@ -8,10 +8,17 @@ ghost use Rattle.common.specs.Bytes.{bigEndian, bytesOf, over, copied};
 // between them. Copies of 32 KiB by smaller chunks measured slower.
 const CHUNK: usize = 16384;
 
-fn wide(x: u8) -> u32
+// A byte as a number, and as a place in a slice or an array.
+pub fn wide(x: u8) -> u32
     ensures { λ r. ⌜ r ≡ x ⌝ }
 {
     x as u32
+}
+
+pub fn index(x: u8) -> usize
+    ensures { λ r. ⌜ r ≡ x ⌝ }
+{
+    x as usize
 }
 
 // The w bytes from `at` on, as an unsigned big-endian number.

@@ -4,5 +4,6 @@ pub mod Effects
 pub mod Heaps
 pub mod Judging
 pub mod Answers
+pub mod Registers
 pub mod Edges
 pub mod Vectors

@@ -6,6 +6,7 @@ ghost use Rattle.heap.specs.Heaps.{heapOf, outcome, heapCall, heapFresh,
 
 pub mod answers;
 mod refusals;
+pub mod registers;
 pub mod unchecked;
 
 // What a call answers: the number of its refusal, 0 for none, and its value.

@@ -12,7 +12,7 @@ use Rattle.takes.specs.Files.{sizeByte, fileNumber, recordsOf, judgement}
 use Rattle.takes.specs.declared.Judgement.{Judgement}
 use Rattle.heap.specs.Views.{slotOrder}
 use Rattle.heap.specs.Heaps.{Heap, heapOf}
-use Rattle.runner.specs.Registers.{registersAtFirst}
+use Rattle.heap.specs.Registers.{registersAtFirst}
 use Rattle.runner.specs.Runs.{RunOutcome, screenful, crowded, runRules, runSettled, runBy, runOf}
 use Rattle.runner.specs.Carrying.{State, stateOf, atFirst, allRecords, Runnable, mostRecords, ranTo}
 use Rattle.runner.specs.declared.Ran.{Ran}

@@ -25,10 +25,10 @@ use Rattle.heap.specs.Answers.{answerBytes}
 use Rattle.heap.specs.declared.Answer.{Answer}
 use Rattle.heap.specs.declared.Call.{Call}
 use Rattle.history.proofs.Answers.{answers-next, answers-none}
-use Rattle.runner.specs.Registers.{put}
+use Rattle.heap.specs.Registers.{registerCount, put}
 use Rattle.runner.specs.Decoding.{decoded, callOf, registersAfter}
 use Rattle.runner.specs.Runs.{Carried, carryOut}
-use Rattle.runner.specs.Carrying.{State, stateOf, oneRecord, allRecords, indexOf, operandsOf, storedIn}
+use Rattle.runner.specs.Carrying.{State, stateOf, oneRecord, allRecords, noRegister, indexOf, operandsOf, storedIn}
 
 pub all-next : (r : Record) (rest : List Record) (place : ℕ) (s : State) → place + 5 ≤ length (s .answers)
     → allRecords (r ∷ rest) place s ≡ allRecords rest (place + 5) (oneRecord r place s)
@@ -54,19 +54,19 @@ low-registers (left d a) h = (low-field (kindsOf 6) (fields (left d a)) 1 h refl
 low-registers (copy d a b n) h = (low-field (kindsOf 7) (fields (copy d a b n)) 1 h refl, low-field (kindsOf 7) (fields (copy d a b n)) 2 h refl)
 low-registers (fill d a v n) h = (low-field (kindsOf 8) (fields (fill d a v n)) 1 h refl, omega arith)
 
--- a value put in register 16 is put nowhere
-put-none : (rs : List ℕ) (v : ℕ) → length rs ≡ 16 → set rs 16 v ≡ rs
-put-none rs v l = set-out rs 16 v (omega arith)
+-- a value put in no register
+put-none : (rs : List ℕ) (v : ℕ) → length rs ≡ registerCount → set rs noRegister v ≡ rs
+put-none rs v l = set-out rs noRegister v (omega arith)
 
-put-index : (o : Option ℕ) (v : ℕ) (rs : List ℕ) → length rs ≡ 16 → set rs (indexOf o) v ≡ put o v rs
+put-index : (o : Option ℕ) (v : ℕ) (rs : List ℕ) → length rs ≡ registerCount → set rs (indexOf o) v ≡ put o v rs
 put-index none v rs l = put-none rs v l
 put-index (some d) v rs l = refl
 
-pub stored-in : (r : Record) (x : Answer) (rs : List ℕ) → length rs ≡ 16 → set rs (storedIn (operandsOf r .d) x) (x .value) ≡ registersAfter r x rs
+pub stored-in : (r : Record) (x : Answer) (rs : List ℕ) → length rs ≡ registerCount → set rs (storedIn (operandsOf r .d) x) (x .value) ≡ registersAfter r x rs
 unfolding registersAfter
 stored-in r x rs l = go (eqb (x .number) 0)
   where
-    go : (b : Bool) → set rs (cond b (operandsOf r .d) 16) (x .value) ≡ cond b (put (decoded r .d) (x .value) rs) rs
+    go : (b : Bool) → set rs (cond b (operandsOf r .d) noRegister) (x .value) ≡ cond b (put (decoded r .d) (x .value) rs) rs
     go true = put-index (decoded r .d) (x .value) rs l
     go false = put-none rs (x .value) l
 

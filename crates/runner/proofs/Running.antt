@@ -16,7 +16,7 @@ use Rattle.heap.specs.Judging.{Sound}
 use Rattle.heap.specs.declared.Answer.{Answer}
 use Rattle.history.proofs.Runs.{fresh-made}
 use Rattle.history.proofs.Soundness.{SoundHeap, fresh-sound, call-sound}
-use Rattle.runner.specs.Registers.{registersAtFirst}
+use Rattle.heap.specs.Registers.{registerCount, registersAtFirst}
 use Rattle.runner.specs.Decoding.{callOf}
 use Rattle.runner.specs.Carrying.{State, stateOf, atFirst, oneRecord, allRecords, Runnable, operandsOf}
 use Rattle.runner.proofs.Files.{accepted-file}
@@ -28,7 +28,7 @@ pub record Going (m : ℕ) (file out₀ a t rs out : List ℕ) (at place : ℕ) 
   pub sound : Sound m a t
   pub good : walkFrom file at .number ≡ 0
   pub room : place + 5 * length (walkFrom file at .records) ≤ length out
-  pub sixteen : length rs ≡ 16
+  pub sixteen : length rs ≡ registerCount
   pub same : length out ≡ length out₀
   pub rest : allRecords (walkFrom file at .records) place (stateOf a t rs out) ≡ allRecords (recordsOf file) 0 (atFirst m out₀)
 

@@ -13,11 +13,11 @@ use Rattle.heap.specs.Views.{slotOrder}
 use Rattle.heap.specs.Heaps.{Heap, heapOf, heapCall, freshHeap}
 use Rattle.heap.specs.Answers.{answerBytes, answersBytes}
 use Rattle.heap.specs.declared.Answer.{Answer}
-use Rattle.runner.specs.Registers.{registersAtFirst}
+use Rattle.heap.specs.Registers.{registerCount, registersAtFirst}
 use Rattle.runner.specs.Decoding.{decoded, callOf, registersAfter}
 use Rattle.runner.specs.Runs.{carryOut, RunOutcome}
 use Rattle.runner.specs.declared.Ran.{Ran}
-use Rattle.runner.specs.declared.registers.Operands.{Operands}
+use Rattle.runner.specs.declared.decoding.Operands.{Operands}
 
 -- a heap, the registers and the answer slice
 pub record State : Type 0 where
@@ -60,15 +60,18 @@ mostRecords = (longest - headLength) / 2
 abbrev pub ranTo : Ran → List ℕ → List ℕ → List ℕ → RunOutcome
 ranTo r a t out = record { number = r .number; registers = r .registers .values; count = r .count; heap = heapOf a t; answers = out }
 
--- a register's index, or 16, which no register has
+-- the index that stands for no register: the first past them
+abbrev pub noRegister : ℕ
+noRegister = registerCount
+
 abbrev pub indexOf : Option ℕ → ℕ
-indexOf none = 16
+indexOf none = noRegister
 indexOf (some d) = d
 
 -- the registers of a record by their indices
 abbrev pub operandsOf : Record → Operands
 operandsOf r = record { a = decoded r .a; b = decoded r .b; d = indexOf (decoded r .d) }
 
--- the register that its value goes to: 16, which is none, where it was refused
+-- the register that its value goes to: none where it was refused
 abbrev pub storedIn : ℕ → Answer → ℕ
-storedIn d x = cond (eqb (x .number) 0) d 16
+storedIn d x = cond (eqb (x .number) 0) d noRegister

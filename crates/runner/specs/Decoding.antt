@@ -10,7 +10,7 @@ use Rattle.takes.specs.declared.Record.the-variants.{Write as write, Left as le
 use Rattle.heap.specs.declared.Answer.{Answer}
 use Rattle.heap.specs.declared.Call.{Call}
 use Rattle.heap.specs.declared.Call.the-variants.{Get, Give, Step, Read, Write, Left, Copy, Fill}
-use Rattle.runner.specs.Registers.{held, put}
+use Rattle.heap.specs.Registers.{held, put}
 
 -- What a record asks for: its registers a and b, 0 where it has none, its call with their values p and q, and the register d that its value goes to.
 pub record Decoded : Type 0 where

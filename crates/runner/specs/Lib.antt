@@ -1,4 +1,3 @@
-pub mod Registers
 pub mod Decoding
 pub mod Runs
 pub mod Panel

@@ -12,7 +12,7 @@ use Rattle.heap.specs.Views.{slotOrder}
 use Rattle.heap.specs.Heaps.{Heap, heapCall, freshHeap}
 use Rattle.heap.specs.Answers.{answersBytes}
 use Rattle.heap.specs.declared.Answer.{Answer}
-use Rattle.runner.specs.Registers.{registersAtFirst}
+use Rattle.heap.specs.Registers.{registersAtFirst}
 use Rattle.runner.specs.Decoding.{callOf, registersAfter}
 
 -- what the records leave: their answers, the heap and the registers

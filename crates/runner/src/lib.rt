@@ -1,7 +1,8 @@
 // Runs a take: its file is judged, the heap made fresh, and each record carried out with sixteen registers.
 use heap::Answer;
 use heap::Call;
-use registers::Registers;
+use heap::registers;
+use heap::registers::Registers;
 ghost use mathlib.Core.Path.{_≡_};
 ghost use Prim.Native.Nat.{_+_, _≤_};
 ghost use lib.ListN.{length};
@@ -10,11 +11,11 @@ ghost use Rattle.heap.specs.Heaps.{heapOf, heapStep, outcome};
 ghost use Rattle.heap.specs.Answers.{answerBytes};
 ghost use Rattle.heap.specs.Judging.{Sound};
 ghost use Rattle.takes.specs.Files.{recordsOf};
-ghost use Rattle.runner.specs.Registers.{registersAtFirst};
+ghost use Rattle.heap.specs.Registers.{registersAtFirst};
 ghost use Rattle.runner.specs.Runs.{screenful, runBy, runOf, panelOf};
 ghost use Rattle.runner.specs.Carrying.{stateOf, atFirst, allRecords, Runnable, ranTo};
 
-pub mod registers;
+mod decoding;
 
 // What a run returns: the number of its refusal, 0 for none, its registers, and the count of its records.
 #[repr(C)]
@@ -77,7 +78,7 @@ fn carry_out(
     while at < file.len() {
         let item = takes::unchecked::read(file, at);
         let next = takes::unchecked::next(file, at);
-        let named = registers::operands_of(item);
+        let named = decoding::operands_of(item);
         let p = registers.values[named.a as usize];
         let q = registers.values[named.b as usize];
         let answer = carry_out_one(
@@ -86,12 +87,12 @@ fn carry_out(
             answers,
             place,
             m,
-            registers::call_with(item, p, q),
+            decoding::call_with(item, p, q),
         );
         at = next;
         place += 5;
-        let d = registers::stored_in(named.d, answer);
-        if d < 16 {
+        let d = decoding::stored_in(named.d, answer);
+        if d < registers::COUNT {
             registers.values[d] = answer.value;
         }
     }

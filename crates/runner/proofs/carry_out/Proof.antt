@@ -9,10 +9,10 @@ use lib.ListN.{length, set, length-set}
 use lib.Seq.{set-out}
 use Rattle.takes.specs.declared.Record.{Record}
 use Rattle.heap.specs.declared.Answer.{Answer}
-use Rattle.runner.specs.Registers.{held}
+use Rattle.heap.specs.Registers.{held}
 use Rattle.runner.specs.Decoding.{decoded, callOf, registersAfter}
 use Rattle.runner.specs.Carrying.{stateOf, oneRecord, operandsOf, storedIn}
-use Rattle.runner.specs.declared.registers.Operands.{Operands}
+use Rattle.runner.specs.declared.decoding.Operands.{Operands}
 use Rattle.runner.proofs.Records.{stored-in, one-record}
 use Rattle.runner.proofs.Running.{Going, going-start, going-good, going-low, going-room, going-further, going-step, going-end}
 use Rattle.runner.proofs.carry_out.Statement.{statement}

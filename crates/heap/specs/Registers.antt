@@ -6,9 +6,12 @@ use mathlib.Core.Option.{Option, none, some}
 use lib.Dec.{ltb}
 use lib.ListN.{getD, set, replicate}
 
--- sixteen, all 0 at first
+abbrev pub registerCount : ℕ
+registerCount = 16
+
+-- all 0 at first
 abbrev pub registersAtFirst : List ℕ
-registersAtFirst = replicate 16 0
+registersAtFirst = replicate registerCount 0
 
 -- what register a holds
 abbrev pub held : List ℕ → ℕ → ℕ
@@ -28,7 +31,7 @@ abbrev pub putTo : ℕ → List ℕ → Put
 putTo n rs = record { number = n; registers = rs }
 
 abbrev pub putNumber : ℕ → ℕ
-putNumber d = cond (ltb d 16) 0 7
+putNumber d = cond (ltb d registerCount) 0 7
 
 unfoldable pub putIn : ℕ → ℕ → List ℕ → Put
-putIn d v rs = record { number = putNumber d; registers = cond (ltb d 16) (set rs d v) rs }
+putIn d v rs = record { number = putNumber d; registers = cond (ltb d registerCount) (set rs d v) rs }

@@ -1,7 +1,7 @@
 -- Each arm is given that the record is its variant.
 use borrow.Author.Needs.{needs}
-use Rattle.runner.proofs.registers.operands_of.Statement.{statement}
-use Rattle.runner.proofs.registers.operands_of.Tie as tie
+use Rattle.runner.proofs.decoding.operands_of.Statement.{statement}
+use Rattle.runner.proofs.decoding.operands_of.Tie as tie
 
 enum-known-item : tie.Need-enum-known-item
 enum-known-item c = search needs
