@@ -3,6 +3,7 @@ use Prim.Native.Nat.{ℕ, _≤_, _<_}
 use mathlib.Core.Path.{_≡_, refl, sym, _∙_, ap}
 use mathlib.Core.List.{List}
 use borrow.Author.Tests.{le-leb, lt-leb, ne-eqb}
+use Rattle.heap.specs.Operations.{lastOperation}
 use Rattle.takes.specs.Reading.{Given, given}
 use Rattle.takes.specs.Writing.{Stored, writeRecord}
 use Rattle.takes.specs.declared.Record.{Record}
@@ -38,10 +39,10 @@ module _ (f : FlatRecord) (out : List ℕ) where
   unfolding writeFlat
   below-is l = rw (lt-leb 1 (f .operation) l)
 
-  pub above-is : 1 ≤ f .operation → 8 < f .operation → unknown out ≡ writeFlat f out
+  pub above-is : 1 ≤ f .operation → lastOperation < f .operation → unknown out ≡ writeFlat f out
   unfolding writeFlat
-  above-is k l = rw (le-leb 1 (f .operation) k, lt-leb (f .operation) 8 l)
+  above-is k l = rw (le-leb 1 (f .operation) k, lt-leb (f .operation) lastOperation l)
 
-  pub known-is : 1 ≤ f .operation → f .operation ≤ 8 → {r : Record} {s : Stored} → r ≡ recordOf f → s ≡ writeRecord r out → s ≡ writeFlat f out
+  pub known-is : 1 ≤ f .operation → f .operation ≤ lastOperation → {r : Record} {s : Stored} → r ≡ recordOf f → s ≡ writeRecord r out → s ≡ writeFlat f out
   unfolding writeFlat
-  known-is k l e q = q ∙ ap (λ (x : Record). writeRecord x out) e ∙ rw (le-leb 1 (f .operation) k, le-leb (f .operation) 8 l)
+  known-is k l e q = q ∙ ap (λ (x : Record). writeRecord x out) e ∙ rw (le-leb 1 (f .operation) k, le-leb (f .operation) lastOperation l)

@@ -1,9 +1,10 @@
 -- Records without cases, as C passes them, and the reader's and the writer's answers in those terms.
 use Prim.Native.Nat.{ℕ}
-use mathlib.Core.Bool.{cond, _&&_}
+use mathlib.Core.Bool.{cond}
 use mathlib.Core.List.{List}
 use mathlib.Core.Option.{Option, none, some}
-use lib.Dec.{eqb, leb}
+use lib.Dec.{eqb}
+use Rattle.heap.specs.Operations.{isOperation}
 use Rattle.heap.specs.declared.Answer.{Answer}
 use Rattle.takes.specs.Reading.{Given}
 use Rattle.takes.specs.Writing.{Stored, writeRecord}
@@ -34,7 +35,7 @@ flatFound (some r) = flat r
 abbrev pub placed : Given → Place
 placed g = record { number = g .number; item = flatFound (g .found); next = g .next }
 
--- the record of an operation from 1 to 8, whatever stands in the fields that it lacks
+-- the record of an operation, whatever stands in the fields that it lacks
 abbrev pub recordAs : ℕ → FlatRecord → Record
 recordAs op f =
     cond (eqb op 1) (Get (f .d) (f .word))
@@ -57,4 +58,4 @@ abbrev pub unknown : List ℕ → Stored
 unknown out = record { number = 5; count = 0; slice = out }
 
 unfoldable pub writeFlat : FlatRecord → List ℕ → Stored
-writeFlat f out = cond (leb 1 (f .operation) && leb (f .operation) 8) (writeRecord (recordOf f) out) (unknown out)
+writeFlat f out = cond (isOperation (f .operation)) (writeRecord (recordOf f) out) (unknown out)

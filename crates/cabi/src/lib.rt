@@ -1,6 +1,7 @@
 // The C interface: the heap's calls, both runs, replay, reader and writer under one prefix, with structs by value and slices as pointer and length. What C sees
 // of it stands in include/tulivombe.h.
 use heap::Answer;
+use heap::operations;
 use runner::Ran;
 use takes::Reading;
 use takes::Record;
@@ -238,7 +239,7 @@ pub extern "C" fn tulivombe_write_head(out: &mut [u8], m: u32) -> Answer
     }
 }
 
-// The record of an operation from 1 to 8.
+// The record of an operation of the table, a fill for any other number.
 fn structured(f: FlatRecord) -> Record
     ensures { λ r. ⌜ r ≡ recordOf f ⌝ }
 {
@@ -267,7 +268,7 @@ pub extern "C" fn tulivombe_write_record(out: &mut [u8], item: FlatRecord) -> An
             value: 0,
         };
     }
-    if 8 < operation {
+    if operations::LAST < operation {
         return Answer {
             number: 5,
             value: 0,

@@ -4,6 +4,9 @@ use mathlib.Core.List.{List, [], _∷_, _++_}
 use Rattle.common.specs.Bytes.{bytesOf}
 use Rattle.heap.specs.declared.Answer.{Answer}
 
+abbrev pub answerLength : ℕ
+answerLength = 5
+
 -- number, then value big-endian; every number is below 256
 abbrev pub answerBytes : Answer → List ℕ
 answerBytes x = x .number % 256 ∷ bytesOf 4 (x .value)

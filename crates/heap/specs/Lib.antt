@@ -4,6 +4,7 @@ pub mod Effects
 pub mod Heaps
 pub mod Judging
 pub mod Answers
+pub mod Operations
 pub mod Registers
 pub mod Edges
 pub mod Vectors

@@ -4,7 +4,10 @@ ghost use mathlib.Core.Path.{_≡_};
 ghost use Prim.Native.Nat.{_+_, _≤_};
 ghost use lib.ListN.{length};
 ghost use Rattle.common.specs.Bytes.{over};
-ghost use Rattle.heap.specs.Answers.{answerBytes};
+ghost use Rattle.heap.specs.Answers.{answerLength, answerBytes};
+
+// How many bytes an answer takes in an answer slice.
+pub const ANSWER_LENGTH: usize = 5;
 
 pub fn accepted(value: u32) -> Answer
     ensures { λ r. ⌜ r ≡ record { number = 0; value = value } ⌝ }
@@ -18,9 +21,9 @@ pub fn refused(number: u32) -> Answer
     Answer { number, value: 0 }
 }
 
-// Stores an answer in five bytes from `at` on: its number, then its value big-endian.
+// Stores an answer from `at` on: its number in a byte, then its value big-endian.
 pub fn store(out: &mut [u8], at: usize, answer: Answer)
-    requires { ⌜ at + 5 ≤ length (now out) ⌝ }
+    requires { ⌜ at + answerLength ≤ length (now out) ⌝ }
     ensures { λ _. ⌜ now (out .exit) ≡ over (now (out .entry)) at (answerBytes answer) ⌝ }
 {
     out[at] = (answer.number % 256) as u8;

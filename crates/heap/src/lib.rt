@@ -5,6 +5,7 @@ ghost use Prim.Native.Nat.{_+_};
 ghost use Rattle.heap.specs.Heaps.{heapOf, outcome, heapCall, heapFresh, heapCheck, shown, shownByLeft, shownFrom};
 
 pub mod answers;
+pub mod operations;
 mod refusals;
 pub mod registers;
 pub mod unchecked;

@@ -12,6 +12,7 @@ use Rattle.takes.specs.Files.{sizeByte, fileNumber, recordsOf, judgement}
 use Rattle.takes.specs.declared.Judgement.{Judgement}
 use Rattle.heap.specs.Views.{slotOrder}
 use Rattle.heap.specs.Heaps.{Heap, heapOf}
+use Rattle.heap.specs.Answers.{answerLength}
 use Rattle.heap.specs.Registers.{registersAtFirst}
 use Rattle.runner.specs.Runs.{RunOutcome, screenful, crowded, runRules, runSettled, runBy, runOf}
 use Rattle.runner.specs.Carrying.{State, stateOf, atFirst, allRecords, Runnable, mostRecords, ranTo}
@@ -94,14 +95,14 @@ module _ (panel : Bool) (file a t out : List ℕ) where
           refused-by 8 (λ z. omega arith) (rw (z, b, eq-eqb (length a) (2 ^ sizeByte file) p, ne-eqb (length t) (2 ^ (sizeByte file - slotOrder)) d))
 
       module _ (q : length t ≡ 2 ^ (sizeByte file - slotOrder)) where
-        fits : (x : Bool) → ltb (length out) (5 * length (recordsOf file)) ≡ x → number ≡ cond x 9 0
+        fits : (x : Bool) → ltb (length out) (answerLength * length (recordsOf file)) ≡ x → number ≡ cond x 9 0
         fits x l = rw (z, b, eq-eqb (length a) (2 ^ sizeByte file) p, eq-eqb (length t) (2 ^ (sizeByte file - slotOrder)) q, l)
 
-        pub by-room : length out < 5 * length (recordsOf file) → RefusedBy 9
-        by-room l = refused-by 9 (λ z. omega arith) (fits true (lt-ltb (length out) (5 * length (recordsOf file)) l))
+        pub by-room : length out < answerLength * length (recordsOf file) → RefusedBy 9
+        by-room l = refused-by 9 (λ z. omega arith) (fits true (lt-ltb (length out) (answerLength * length (recordsOf file)) l))
 
-        by-none : 5 * length (recordsOf file) ≤ length out → number ≡ 0
-        by-none l = fits false (le-ltb (length out) (5 * length (recordsOf file)) l)
+        by-none : answerLength * length (recordsOf file) ≤ length out → number ≡ 0
+        by-none l = fits false (le-ltb (length out) (answerLength * length (recordsOf file)) l)
 
   pub run-done : (m : ℕ) → Runnable m file a t out → (panel && crowded file) ≡ false → (r : Ran) (a′ t′ out′ : List ℕ) → r .number ≡ 0
       → r .count ≡ length (recordsOf file) → stateOf a′ t′ (r .registers .values) out′ ≡ allRecords (recordsOf file) 0 (atFirst m out)
@@ -114,18 +115,19 @@ module _ (panel : Bool) (file a t out : List ℕ) where
       (ap (λ (s : State). record { number = 0; registers = s .registers; count = length (recordsOf file); heap = s .heap; answers = s .answers }) e)
 
 -- an accepted upload had room for its answers
-pub ran-room : (file out : List ℕ) (h : Heap) (r : Ran) (a t out′ : List ℕ) → ranTo r a t out′ ≡ runOf file h out → r .number ≡ 0 → 5 * r .count ≤ length out
+pub ran-room : (file out : List ℕ) (h : Heap) (r : Ran) (a t out′ : List ℕ) → ranTo r a t out′ ≡ runOf file h out → r .number ≡ 0
+    → answerLength * r .count ≤ length out
 unfolding runBy
 ran-room file out h r a t out′ e z = go (first (runRules false file h out)) refl e
   where
-    go : (k : ℕ) → first (runRules false file h out) ≡ k → ranTo r a t out′ ≡ runSettled k file h out → 5 * r .count ≤ length out
+    go : (k : ℕ) → first (runRules false file h out) ≡ k → ranTo r a t out′ ≡ runSettled k file h out → answerLength * r .count ≤ length out
     go zero k e =
-        let short : Bool = ltb (length out) (5 * length (recordsOf file)) in
+        let short : Bool = ltb (length out) (answerLength * length (recordsOf file)) in
         let wrong : Bool = not (eqb (length (h .arena)) (2 ^ sizeByte file)) || not (eqb (length (h .table)) (2 ^ (sizeByte file - slotOrder))) in
         let two = unless (fileNumber file) (cond wrong 8 (cond short 9 0)) k in
         let three = clear 8 wrong (cond short 9 0) (λ z. omega arith) (two .1) in
         let four = clear 9 short 0 (λ z. omega arith) (three .1) in
-        omega (arith, ltb-false (length out) (5 * length (recordsOf file)) (four .0), ap (λ (o : RunOutcome). o .count) e)
+        omega (arith, ltb-false (length out) (answerLength * length (recordsOf file)) (four .0), ap (λ (o : RunOutcome). o .count) e)
     go (suc k) q e = absurd (omega (arith, ap (λ (o : RunOutcome). o .number) e))
 
 settled-number : (k : ℕ) (file : List ℕ) (h : Heap) (out : List ℕ) → runSettled k file h out .number ≡ k
@@ -134,7 +136,7 @@ settled-number (suc k) file h out = refl
 
 -- an upload on memory that fits its file is refused by the file alone
 module _ (file a t out : List ℕ) (p : fileNumber file ≡ 0 → length a ≡ 2 ^ sizeByte file)
-    (q : fileNumber file ≡ 0 → length t ≡ 2 ^ (sizeByte file - slotOrder)) (l : 5 * mostRecords ≤ length out) where
+    (q : fileNumber file ≡ 0 → length t ≡ 2 ^ (sizeByte file - slotOrder)) (l : answerLength * mostRecords ≤ length out) where
   first-is : number false file a t out ≡ fileNumber file
   first-is = go (eqb (fileNumber file) 0) refl
     where

@@ -1,5 +1,5 @@
 -- Records carried out one at a time: the first, and then the rest on what it left.
-use Prim.Native.Nat.{ℕ, _+_, _≤_}
+use Prim.Native.Nat.{ℕ, _+_, _≤_, _<_}
 use mathlib.Core.Path.{_≡_, refl, sym, _∙_, ap, ap₂}
 use mathlib.Core.Bool.{Bool, true, false, cond}
 use mathlib.Core.List.{List, [], _∷_}
@@ -21,7 +21,7 @@ use Rattle.takes.specs.declared.Record.the-variants.{Write as write, Left as le
 use Rattle.heap.specs.Effects.{Outcome}
 use Rattle.heap.specs.Heaps.{Heap, heapOf, heapStep, heapCall, outcome}
 use Rattle.heap.specs.Judging.{Sound}
-use Rattle.heap.specs.Answers.{answerBytes}
+use Rattle.heap.specs.Answers.{answerLength, answerBytes}
 use Rattle.heap.specs.declared.Answer.{Answer}
 use Rattle.heap.specs.declared.Call.{Call}
 use Rattle.history.proofs.Answers.{answers-next, answers-none}
@@ -30,8 +30,8 @@ use Rattle.runner.specs.Decoding.{decoded, callOf, registersAfter}
 use Rattle.runner.specs.Runs.{Carried, carryOut}
 use Rattle.runner.specs.Carrying.{State, stateOf, oneRecord, allRecords, noRegister, indexOf, operandsOf, storedIn}
 
-pub all-next : (r : Record) (rest : List Record) (place : ℕ) (s : State) → place + 5 ≤ length (s .answers)
-    → allRecords (r ∷ rest) place s ≡ allRecords rest (place + 5) (oneRecord r place s)
+pub all-next : (r : Record) (rest : List Record) (place : ℕ) (s : State) → place + answerLength ≤ length (s .answers)
+    → allRecords (r ∷ rest) place s ≡ allRecords rest (place + answerLength) (oneRecord r place s)
 unfolding carryOut
 all-next r rest place s h =
     let o : Outcome Heap = heapCall (callOf (s .registers) r) (s .heap) in
@@ -43,7 +43,8 @@ unfolding carryOut
 all-none place s = ap (λ (l : List ℕ). record { heap = s .heap; registers = s .registers; answers = l }) (answers-none (s .answers) place)
 
 -- a register that a record of the file takes from is one of the sixteen
-pub low-registers : (r : Record) → highRegister (kindsOf (operation r)) (fields r) ≡ false → (operandsOf r .a ≤ 15) × (operandsOf r .b ≤ 15)
+pub low-registers : (r : Record) → highRegister (kindsOf (operation r)) (fields r) ≡ false
+    → (operandsOf r .a < registerCount) × (operandsOf r .b < registerCount)
 unfolding kindsOf
 low-registers (get d n) h = (omega arith, omega arith)
 low-registers (give a) h = (low-field (kindsOf 2) (fields (give a)) 0 h refl, omega arith)

@@ -6,13 +6,14 @@ use mathlib.Core.Option.{some}
 use native.Mathlib.Omega.{arith}
 use lib.ListN.{length, drop}
 use Rattle.takes.specs.Reading.{readAt}
-use Rattle.takes.specs.Files.{Walk, ended, before, walkFrom, headLength, recordsOf}
+use Rattle.takes.specs.Files.{Walk, ended, before, walkFrom, headLength, smallestSize, largestSize, recordsOf}
 use Rattle.takes.specs.declared.Record.{Record}
 use Rattle.takes.proofs.Walks.{Next, found-next, from-end, accepted-here}
 use Rattle.takes.proofs.RoundTrips.{read-low}
 use Rattle.heap.specs.Effects.{Outcome}
 use Rattle.heap.specs.Heaps.{Heap, heapOf, heapFresh, freshHeap, outcome}
 use Rattle.heap.specs.Judging.{Sound}
+use Rattle.heap.specs.Answers.{answerLength}
 use Rattle.heap.specs.declared.Answer.{Answer}
 use Rattle.history.proofs.Runs.{fresh-made}
 use Rattle.history.proofs.Soundness.{SoundHeap, fresh-sound, call-sound}
@@ -27,18 +28,18 @@ pub record Going (m : ℕ) (file out₀ a t rs out : List ℕ) (at place : ℕ) 
   -- the table is undamaged, so a run never scans it
   pub sound : Sound m a t
   pub good : walkFrom file at .number ≡ 0
-  pub room : place + 5 * length (walkFrom file at .records) ≤ length out
+  pub room : place + answerLength * length (walkFrom file at .records) ≤ length out
   pub sixteen : length rs ≡ registerCount
   pub same : length out ≡ length out₀
   pub rest : allRecords (walkFrom file at .records) place (stateOf a t rs out) ≡ allRecords (recordsOf file) 0 (atFirst m out₀)
 
 pub going-start : (m : ℕ) (file a t out a′ t′ rs : List ℕ) (x : Answer) → Runnable m file a t out
-    → outcome x a′ t′ ≡ heapFresh (heapOf a t) → rs ≡ registersAtFirst → Going m file out a′ t′ rs out 2 0
+    → outcome x a′ t′ ≡ heapFresh (heapOf a t) → rs ≡ registersAtFirst → Going m file out a′ t′ rs out headLength 0
 unfolding recordsOf
 going-start m file a t out a′ t′ rs x r e z =
     let f = accepted-file file (r .judged) in
-    let low : 5 ≤ m = omega (arith, f .head .low, r .same) in
-    let high : m ≤ 16 = omega (arith, f .head .high, r .same) in
+    let low : smallestSize ≤ m = omega (arith, f .head .low, r .same) in
+    let high : m ≤ largestSize = omega (arith, f .head .high, r .same) in
     let h : heapOf a′ t′ ≡ freshHeap m = ap (λ (o : Outcome Heap). o .state) e ∙ fresh-made m (heapOf a t) low high (r .size) (r .slots) in
     record {
       sound = subst (SoundHeap m) (sym h) (fresh-sound m low high);
@@ -70,14 +71,14 @@ module _ {m : ℕ} {file out₀ a t rs out : List ℕ} {at place : ℕ} (g : Goi
       pub going-further : at < next
       going-further = omega (arith, found .beyond)
 
-      pub going-low : (operandsOf r .a ≤ 15) × (operandsOf r .b ≤ 15)
+      pub going-low : (operandsOf r .a < registerCount) × (operandsOf r .b < registerCount)
       going-low = low-registers r (rw (found .the-record) (read-low (drop at file) (found .whole)))
 
-      pub going-room : place + 5 * suc (length (walkFrom file next .records)) ≤ length out
+      pub going-room : place + answerLength * suc (length (walkFrom file next .records)) ≤ length out
       going-room = rw to-come at (g .room)
 
       pub going-step : (a′ t′ rs′ out′ : List ℕ) → stateOf a′ t′ rs′ out′ ≡ oneRecord r place (stateOf a t rs out)
-          → length rs′ ≡ length rs → length out′ ≡ length out → Going m file out₀ a′ t′ rs′ out′ next (place + 5)
+          → length rs′ ≡ length rs → length out′ ≡ length out → Going m file out₀ a′ t′ rs′ out′ next (place + answerLength)
       going-step a′ t′ rs′ out′ q k l =
           record {
             sound = subst (SoundHeap m) (sym (ap (λ (s : State). s .heap) q)) (call-sound m (heapOf a t) (g .sound) (callOf rs r));
@@ -86,7 +87,7 @@ module _ {m : ℕ} {file out₀ a t rs out : List ℕ} {at place : ℕ} (g : Goi
             sixteen = k ∙ g .sixteen;
             same = l ∙ g .same;
             rest =
-                ap (allRecords (walkFrom file next .records) (place + 5)) q
+                ap (allRecords (walkFrom file next .records) (place + answerLength)) q
                 ∙ (sym (all-next r (walkFrom file next .records) place (stateOf a t rs out) (omega (arith, going-room)))
                 ∙ (sym (ap (λ (w : Walk). allRecords (w .records) place (stateOf a t rs out)) to-come)
                 ∙ g .rest));

@@ -11,7 +11,7 @@ use Rattle.takes.specs.Files.{headLength, longest, sizeByte, fileNumber, record
 use Rattle.takes.specs.declared.Record.{Record}
 use Rattle.heap.specs.Views.{slotOrder}
 use Rattle.heap.specs.Heaps.{Heap, heapOf, heapCall, freshHeap}
-use Rattle.heap.specs.Answers.{answerBytes, answersBytes}
+use Rattle.heap.specs.Answers.{answerLength, answerBytes, answersBytes}
 use Rattle.heap.specs.declared.Answer.{Answer}
 use Rattle.heap.specs.Registers.{registerCount, registersAtFirst}
 use Rattle.runner.specs.Decoding.{decoded, callOf, registersAfter}
@@ -50,7 +50,7 @@ pub record Runnable (m : ℕ) (file a t out : List ℕ) : Type 0 where
   pub same : sizeByte file ≡ m
   pub size : length a ≡ 2 ^ m
   pub slots : length t ≡ 2 ^ (m - slotOrder)
-  pub room : 5 * length (recordsOf file) ≤ length out
+  pub room : answerLength * length (recordsOf file) ≤ length out
 
 -- no file has more records: each takes two bytes or more, its length byte and its operation
 abbrev pub mostRecords : ℕ

@@ -10,7 +10,7 @@ use Rattle.takes.specs.Files.{sizeByte, fileNumber, recordsOf}
 use Rattle.takes.specs.declared.Record.{Record}
 use Rattle.heap.specs.Views.{slotOrder}
 use Rattle.heap.specs.Heaps.{Heap, heapCall, freshHeap}
-use Rattle.heap.specs.Answers.{answersBytes}
+use Rattle.heap.specs.Answers.{answerLength, answersBytes}
 use Rattle.heap.specs.declared.Answer.{Answer}
 use Rattle.heap.specs.Registers.{registersAtFirst}
 use Rattle.runner.specs.Decoding.{callOf, registersAfter}
@@ -43,7 +43,7 @@ runRules panel file h out =
     fileNumber file when not (eqb (fileNumber file) 0)
     ∷ 26 when (panel && crowded file)
     ∷ 8 when (not (eqb (length (h .arena)) (2 ^ sizeByte file)) || not (eqb (length (h .table)) (2 ^ (sizeByte file - slotOrder))))
-    ∷ 9 when ltb (length out) (5 * length (recordsOf file))
+    ∷ 9 when ltb (length out) (answerLength * length (recordsOf file))
     ∷ []
 
 -- What a run returns and leaves: number, registers, record count, both buffers and the answer slice.

@@ -1,6 +1,7 @@
 // Runs a take: its file is judged, the heap made fresh, and each record carried out with sixteen registers.
 use heap::Answer;
 use heap::Call;
+use heap::answers::ANSWER_LENGTH;
 use heap::registers;
 use heap::registers::Registers;
 ghost use mathlib.Core.Path.{_≡_};
@@ -8,7 +9,7 @@ ghost use Prim.Native.Nat.{_+_, _≤_};
 ghost use lib.ListN.{length};
 ghost use Rattle.common.specs.Bytes.{over};
 ghost use Rattle.heap.specs.Heaps.{heapOf, heapStep, outcome};
-ghost use Rattle.heap.specs.Answers.{answerBytes};
+ghost use Rattle.heap.specs.Answers.{answerLength, answerBytes};
 ghost use Rattle.heap.specs.Judging.{Sound};
 ghost use Rattle.takes.specs.Files.{recordsOf};
 ghost use Rattle.heap.specs.Registers.{registersAtFirst};
@@ -25,8 +26,6 @@ pub struct Ran {
     pub count: u32,
 }
 
-// The place of the first record.
-const HEAD: usize = 2;
 // How many records the front panel's screen can list.
 const SCREENFUL: usize = 64;
 
@@ -41,7 +40,7 @@ fn refused(number: u32) -> Ran
     }
 }
 
-// One call, its answer in five bytes from `place` on.
+// One call, its answer stored from `place` on.
 fn carry_out_one(
     arena: &mut [u8],
     table: &mut [u8],
@@ -51,7 +50,7 @@ fn carry_out_one(
     c: Call,
 ) -> Answer
     requires { ⌜ Sound m (now arena) (now table) ⌝ }
-    requires { ⌜ place + 5 ≤ length (now answers) ⌝ }
+    requires { ⌜ place + answerLength ≤ length (now answers) ⌝ }
     ensures { λ r. ⌜ outcome r (now (arena .exit)) (now (table .exit)) ≡ heapStep m c (heapOf (now (arena .entry)) (now (table .entry))) ⌝ }
     ensures { λ r. ⌜ now (answers .exit) ≡ over (now (answers .entry)) place (answerBytes r) ⌝ }
 {
@@ -73,7 +72,7 @@ fn carry_out(
 {
     heap::fresh(arena, table);
     let mut registers = registers::at_first();
-    let mut at = HEAD;
+    let mut at = takes::HEAD;
     let mut place = 0usize;
     while at < file.len() {
         let item = takes::unchecked::read(file, at);
@@ -90,7 +89,7 @@ fn carry_out(
             decoding::call_with(item, p, q),
         );
         at = next;
-        place += 5;
+        place += ANSWER_LENGTH;
         let d = decoding::stored_in(named.d, answer);
         if d < registers::COUNT {
             registers.values[d] = answer.value;
@@ -120,7 +119,7 @@ fn run_by(panel: bool, file: &[u8], arena: &mut [u8], table: &mut [u8], answers:
     if table.len() != blocks::size_of(m - 4) as usize {
         return refused(8);
     }
-    if answers.len() / 5 < records {
+    if answers.len() / ANSWER_LENGTH < records {
         return refused(9);
     }
     let registers = carry_out(file, arena, table, answers, m);

@@ -7,12 +7,13 @@ use native.Mathlib.Omega.{arith}
 use native.Mathlib.Nat.{add-zero}
 use lib.ListN.{length, getD, take, drop, length-drop}
 use lib.Seq.{drop-at, take-add}
-use lib.Dec.{ltb}
-use borrow.Author.Tests.{le-ltb, ltb-false}
+use lib.Dec.{leb}
+use borrow.Author.Tests.{lt-leb, leb-false}
 use Rattle.common.specs.Bytes.{bigEndian, bytesOf}
 use Rattle.common.proofs.Bytes.{length-bytesOf}
+use Rattle.heap.specs.Registers.{registerCount}
 use Rattle.takes.specs.Operations.{Kind, register, byte, word, size, sizes}
-use Rattle.takes.specs.Reading.{values, above15, highRegister}
+use Rattle.takes.specs.Reading.{values, isHigh, highRegister}
 use Rattle.takes.specs.Writing.{valueBytes}
 use Rattle.takes.specs.RoundTrips.{Fits, AllFit, Bytes}
 use Rattle.takes.proofs.Numbers.{bytes-drop, number-drop, number-forth, number-back}
@@ -77,8 +78,8 @@ values-back (κ ∷ ks) bs h l =
     ap₂ _++_ (number-back (size κ) bs h (omega arith)) (values-back ks (drop (size κ) bs) (bytes-drop (size κ) bs h) (omega (arith, length-drop (size κ) bs)))
     ∙ sym (take-add (size κ) (sizes ks) bs)
 
-not-high : (κ : Kind) (v : ℕ) → Fits κ v → above15 κ v ≡ false
-not-high register v h = le-ltb 15 v h
+not-high : (κ : Kind) (v : ℕ) → Fits κ v → isHigh κ v ≡ false
+not-high register v h = lt-leb registerCount v h
 not-high byte v h = refl
 not-high word v h = refl
 
@@ -87,7 +88,7 @@ fit-low [] vs h = refl
 fit-low (κ ∷ ks) [] h = refl
 fit-low (κ ∷ ks) (v ∷ vs) h = rw (not-high κ v (h .0)) (fit-low ks vs (h .1))
 
--- a field that is a register is at most 15, where no register is high
+-- a field that is a register is one of the sixteen, where no register is high
 abbrev pub isRegister : List Kind → ℕ → Bool
 isRegister [] k = false
 isRegister (register ∷ ks) zero = true
@@ -95,10 +96,10 @@ isRegister (byte ∷ ks) zero = false
 isRegister (word ∷ ks) zero = false
 isRegister (κ ∷ ks) (suc k) = isRegister ks k
 
-pub low-field : (ks : List Kind) (vs : List ℕ) (k : ℕ) → highRegister ks vs ≡ false → isRegister ks k ≡ true → getD vs k 0 ≤ 15
+pub low-field : (ks : List Kind) (vs : List ℕ) (k : ℕ) → highRegister ks vs ≡ false → isRegister ks k ≡ true → getD vs k 0 < registerCount
 low-field [] vs k h e = absurd (false≢true e)
 low-field (κ ∷ ks) [] k h e = omega arith
-low-field (register ∷ ks) (v ∷ vs) zero h e = ltb-false 15 v (or-left (ltb 15 v) (highRegister ks vs) h)
+low-field (register ∷ ks) (v ∷ vs) zero h e = leb-false registerCount v (or-left (leb registerCount v) (highRegister ks vs) h)
 low-field (byte ∷ ks) (v ∷ vs) zero h e = absurd (false≢true e)
 low-field (word ∷ ks) (v ∷ vs) zero h e = absurd (false≢true e)
-low-field (κ ∷ ks) (v ∷ vs) (suc k) h e = low-field ks vs k (or-right (above15 κ v) (highRegister ks vs) h) e
+low-field (κ ∷ ks) (v ∷ vs) (suc k) h e = low-field ks vs k (or-right (isHigh κ v) (highRegister ks vs) h) e

@@ -5,7 +5,7 @@ use mathlib.Core.List.{List, [], _∷_}
 use native.Mathlib.Omega.{arith}
 use lib.ListN.{length, getD, drop, set}
 use borrow.Author.Tests.{lt-ltb, le-ltb, le-leb, lt-leb, eq-eqb, ne-eqb}
-use Rattle.takes.specs.Files.{longest, headNumber}
+use Rattle.takes.specs.Files.{headLength, longest, smallestSize, largestSize, headNumber}
 use Rattle.takes.specs.Writing.{writeHead}
 
 module _ (s : List ℕ) where
@@ -19,69 +19,69 @@ module _ (s : List ℕ) where
     first-byte h = rw (ne-eqb (length s) 0 some, ne-eqb (getD s 0 0) 1 h)
 
     module _ (one : getD s 0 0 ≡ 1) where
-      pub no-size : length s < 2 → 2 ≡ headNumber s
+      pub no-size : length s < headLength → 2 ≡ headNumber s
       unfolding headNumber
-      no-size h = rw (ne-eqb (length s) 0 some, eq-eqb (getD s 0 0) 1 one, lt-ltb (length s) 2 h)
+      no-size h = rw (ne-eqb (length s) 0 some, eq-eqb (getD s 0 0) 1 one, lt-ltb (length s) headLength h)
 
-      module _ (sized : 2 ≤ length s) where
-        pub small : getD s 1 0 < 5 → 2 ≡ headNumber s
+      module _ (sized : headLength ≤ length s) where
+        pub small : getD s 1 0 < smallestSize → 2 ≡ headNumber s
         unfolding headNumber
-        small h = rw (ne-eqb (length s) 0 some, eq-eqb (getD s 0 0) 1 one, le-ltb (length s) 2 sized, lt-leb 5 (getD s 1 0) h)
+        small h = rw (ne-eqb (length s) 0 some, eq-eqb (getD s 0 0) 1 one, le-ltb (length s) headLength sized, lt-leb smallestSize (getD s 1 0) h)
 
-        pub large : 5 ≤ getD s 1 0 → 16 < getD s 1 0 → 2 ≡ headNumber s
+        pub large : smallestSize ≤ getD s 1 0 → largestSize < getD s 1 0 → 2 ≡ headNumber s
         unfolding headNumber
         large l h =
             rw (
               ne-eqb (length s) 0 some,
               eq-eqb (getD s 0 0) 1 one,
-              le-ltb (length s) 2 sized,
-              le-leb 5 (getD s 1 0) l,
-              lt-leb (getD s 1 0) 16 h,
+              le-ltb (length s) headLength sized,
+              le-leb smallestSize (getD s 1 0) l,
+              lt-leb (getD s 1 0) largestSize h,
             )
 
-        pub long : 5 ≤ getD s 1 0 → getD s 1 0 ≤ 16 → longest < length s → 3 ≡ headNumber s
+        pub long : smallestSize ≤ getD s 1 0 → getD s 1 0 ≤ largestSize → longest < length s → 3 ≡ headNumber s
         unfolding headNumber
         long l h k =
             rw (
               ne-eqb (length s) 0 some,
               eq-eqb (getD s 0 0) 1 one,
-              le-ltb (length s) 2 sized,
-              le-leb 5 (getD s 1 0) l,
-              le-leb (getD s 1 0) 16 h,
+              le-ltb (length s) headLength sized,
+              le-leb smallestSize (getD s 1 0) l,
+              le-leb (getD s 1 0) largestSize h,
               lt-ltb longest (length s) k,
             )
 
-        pub good : 5 ≤ getD s 1 0 → getD s 1 0 ≤ 16 → length s ≤ longest → 0 ≡ headNumber s
+        pub good : smallestSize ≤ getD s 1 0 → getD s 1 0 ≤ largestSize → length s ≤ longest → 0 ≡ headNumber s
         unfolding headNumber
         good l h k =
             rw (
               ne-eqb (length s) 0 some,
               eq-eqb (getD s 0 0) 1 one,
-              le-ltb (length s) 2 sized,
-              le-leb 5 (getD s 1 0) l,
-              le-leb (getD s 1 0) 16 h,
+              le-ltb (length s) headLength sized,
+              le-leb smallestSize (getD s 1 0) l,
+              le-leb (getD s 1 0) largestSize h,
               le-ltb longest (length s) k,
             )
 
-pub two-set : (out : List ℕ) (a b : ℕ) → 2 ≤ length out → set (set out 0 a) 1 b ≡ a ∷ b ∷ drop 2 out
+pub two-set : (out : List ℕ) (a b : ℕ) → headLength ≤ length out → set (set out 0 a) 1 b ≡ a ∷ b ∷ drop headLength out
 two-set [] a b h = absurd (omega arith)
 two-set (x ∷ []) a b h = absurd (omega arith)
 two-set (x ∷ y ∷ out) a b h = refl
 
 module _ (m : ℕ) (out : List ℕ) where
-  pub small-m : m < 5 → record { number = 2; count = 0; slice = out } ≡ writeHead m out
+  pub small-m : m < smallestSize → record { number = 2; count = 0; slice = out } ≡ writeHead m out
   unfolding writeHead
-  small-m h = rw (lt-leb 5 m h)
+  small-m h = rw (lt-leb smallestSize m h)
 
-  module _ (low : 5 ≤ m) where
-    pub large-m : 16 < m → record { number = 2; count = 0; slice = out } ≡ writeHead m out
+  module _ (low : smallestSize ≤ m) where
+    pub large-m : largestSize < m → record { number = 2; count = 0; slice = out } ≡ writeHead m out
     unfolding writeHead
-    large-m h = rw (le-leb 5 m low, lt-leb m 16 h)
+    large-m h = rw (le-leb smallestSize m low, lt-leb m largestSize h)
 
-    pub no-room : m ≤ 16 → length out < 2 → record { number = 9; count = 0; slice = out } ≡ writeHead m out
+    pub no-room : m ≤ largestSize → length out < headLength → record { number = 9; count = 0; slice = out } ≡ writeHead m out
     unfolding writeHead
-    no-room l h = rw (le-leb 5 m low, le-leb m 16 l, lt-ltb (length out) 2 h)
+    no-room l h = rw (le-leb smallestSize m low, le-leb m largestSize l, lt-ltb (length out) headLength h)
 
-    pub head-stored : m ≤ 16 → 2 ≤ length out → record { number = 0; count = 2; slice = set (set out 0 1) 1 m } ≡ writeHead m out
+    pub head-stored : m ≤ largestSize → headLength ≤ length out → record { number = 0; count = headLength; slice = set (set out 0 1) 1 m } ≡ writeHead m out
     unfolding writeHead
-    head-stored l h = rw (le-leb 5 m low, le-leb m 16 l, le-ltb (length out) 2 h, two-set out 1 m h)
+    head-stored l h = rw (le-leb smallestSize m low, le-leb m largestSize l, le-ltb (length out) headLength h, two-set out 1 m h)

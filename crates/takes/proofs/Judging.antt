@@ -8,7 +8,8 @@ use lib.Dec.{eqb, leb, ltb}
 use lib.ListN.{length, getD, take}
 use borrow.Author.Tests.{ltb-false, leb-true, eqb-true, eqb-false, ne-eqb, not-false}
 use Rattle.takes.specs.Reading.{refused, readAt}
-use Rattle.takes.specs.Files.{Walk, ended, walkFrom, headLength, longest, sizeByte, isSize, headNumber, recordsNumber, fileNumber, recordsOf, judgement}
+use Rattle.takes.specs.Files.{Walk, ended, walkFrom, headLength, longest, sizeByte, smallestSize, largestSize, isSize}
+use Rattle.takes.specs.Files.{headNumber, recordsNumber, fileNumber, recordsOf, judgement}
 use Rattle.takes.specs.Writing.{headBytes}
 use Rattle.takes.specs.declared.Record.{Record}
 use Rattle.takes.proofs.Operations.{and-left, and-right}
@@ -19,15 +20,15 @@ use Rattle.takes.proofs.Walks.{Next, from-end, from-refused}
 pub record Head (s : List ℕ) : Type 0 where
   pub first-byte : getD s 0 0 ≡ 1
   pub both : headLength ≤ length s
-  pub low : 5 ≤ sizeByte s
-  pub high : sizeByte s ≤ 16
+  pub low : smallestSize ≤ sizeByte s
+  pub high : sizeByte s ≤ largestSize
   pub short : length s ≤ longest
 
 abbrev test-1 : List ℕ → Bool
 test-1 s = eqb (length s) 0 || not (eqb (getD s 0 0) 1)
 
 abbrev test-2 : List ℕ → Bool
-test-2 s = ltb (length s) 2 || not (isSize (sizeByte s))
+test-2 s = ltb (length s) headLength || not (isSize (sizeByte s))
 
 pub head-accepted : (s : List ℕ) → headNumber s ≡ 0 → Head s
 unfolding headNumber
@@ -36,12 +37,12 @@ head-accepted s h = by-1 (test-1 s) refl h
     by-3 : test-1 s ≡ false → test-2 s ≡ false → (b : Bool) → ltb longest (length s) ≡ b → _≡_ {A = ℕ} (cond b 3 0) 0 → Head s
     by-3 p q true e h = absurd (omega arith)
     by-3 p q false e h =
-        let m : isSize (sizeByte s) ≡ true = not-false (isSize (sizeByte s)) (or-right (ltb (length s) 2) (not (isSize (sizeByte s))) q) in
+        let m : isSize (sizeByte s) ≡ true = not-false (isSize (sizeByte s)) (or-right (ltb (length s) headLength) (not (isSize (sizeByte s))) q) in
         record {
           first-byte = eqb-true (getD s 0 0) 1 (not-false (eqb (getD s 0 0) 1) (or-right (eqb (length s) 0) (not (eqb (getD s 0 0) 1)) p));
-          both = ltb-false (length s) 2 (or-left (ltb (length s) 2) (not (isSize (sizeByte s))) q);
-          low = leb-true 5 (sizeByte s) (and-left (leb 5 (sizeByte s)) (leb (sizeByte s) 16) m);
-          high = leb-true (sizeByte s) 16 (and-right (leb 5 (sizeByte s)) (leb (sizeByte s) 16) m);
+          both = ltb-false (length s) headLength (or-left (ltb (length s) headLength) (not (isSize (sizeByte s))) q);
+          low = leb-true smallestSize (sizeByte s) (and-left (leb smallestSize (sizeByte s)) (leb (sizeByte s) largestSize) m);
+          high = leb-true (sizeByte s) largestSize (and-right (leb smallestSize (sizeByte s)) (leb (sizeByte s) largestSize) m);
           short = ltb-false longest (length s) e;
         }
 

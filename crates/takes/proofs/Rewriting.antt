@@ -57,9 +57,9 @@ module _ (file out : List ℕ) (size : ℕ) (w : Written) (out₁ : List ℕ) wh
   head-is : fileNumber file ≡ 0 → size ≡ sizeByte file → length file ≤ length out → stored w out₁ ≡ writeHead size out → out₁ ≡ take headLength file ++ drop headLength out
   head-is a s l e =
       let h : Head file = head-accepted file (file-accepted file a .0) in
-      let p : out₁ ≡ 1 ∷ size ∷ drop 2 out =
+      let p : out₁ ≡ 1 ∷ size ∷ drop headLength out =
       ap (λ (x : Stored). x .slice) (e ∙ sym (head-stored size out (omega (arith, h .low)) (omega (arith, h .high)) (omega (arith, h .both)))) ∙ two-set out 1 size (omega (arith, h .both)) in
-      p ∙ (ap (λ (n : ℕ). 1 ∷ n ∷ drop 2 out) s ∙ ap (λ (l : List ℕ). l ++ drop headLength out) (head-bytes file h))
+      p ∙ (ap (λ (n : ℕ). 1 ∷ n ∷ drop headLength out) s ∙ ap (λ (l : List ℕ). l ++ drop headLength out) (head-bytes file h))
 
   pub rewriting-start : fileNumber file ≡ 0 → size ≡ sizeByte file → length file ≤ length out → stored w out₁ ≡ writeHead size out → length out₁ ≡ length out
       → Rewriting file out₁ out₁ headLength

@@ -11,7 +11,7 @@ use lib.Seq.{drop-cons, drop-drop}
 use Rattle.common.specs.Bytes.{bigEndian, bytesOf, over}
 use Rattle.common.proofs.Bytes.{over-none, over-append, length-bytesOf}
 use Rattle.takes.specs.Operations.{Kind, register, byte, word, size, sizes}
-use Rattle.takes.specs.Reading.{values, above15, highRegister}
+use Rattle.takes.specs.Reading.{values, isHigh, highRegister}
 use Rattle.takes.specs.Writing.{valueBytes}
 use Rattle.takes.specs.Table.{code, digits, sizeAt, highAt}
 use Rattle.takes.proofs.Numbers.{number-drop}
@@ -23,7 +23,7 @@ pub record Ahead (ks : List Kind) (n : ℕ) : Type 0 where
   pub after : List Kind
   pub is : ks ≡ kind ∷ after
   pub size-is : sizeAt (n % 16) ≡ size kind
-  pub high-is : (v : ℕ) → highAt (n % 16) v ≡ above15 kind v
+  pub high-is : (v : ℕ) → highAt (n % 16) v ≡ isHigh kind v
   pub rest-is : n / 16 ≡ digits after
 
 last-digit : (κ : Kind) (ks : List Kind) → digits (κ ∷ ks) % 16 ≡ code κ
@@ -41,7 +41,7 @@ size-code register = refl
 size-code byte = refl
 size-code word = refl
 
-high-code : (κ : Kind) (v : ℕ) → highAt (code κ) v ≡ above15 κ v
+high-code : (κ : Kind) (v : ℕ) → highAt (code κ) v ≡ isHigh κ v
 high-code register v = refl
 high-code byte v = refl
 high-code word v = refl
@@ -79,8 +79,8 @@ pub record Looking (s : List ℕ) (whole : Bool) (kinds place : ℕ) : Type 0 wh
   pub same : highRegister rest (values rest (drop place s)) ≡ whole
 
 -- of a field's first byte it is told whether the field is a high register
-above-first : (κ : Kind) (s : List ℕ) (place : ℕ) → above15 κ (bigEndian (drop place s) 0 (size κ)) ≡ above15 κ (getD s place 0)
-above-first register s place = ap (above15 register) (number-drop place 0 1 s ∙ (number-one s (place + 0) ∙ ap (λ (n : ℕ). getD s n 0) (add-zero place)))
+above-first : (κ : Kind) (s : List ℕ) (place : ℕ) → isHigh κ (bigEndian (drop place s) 0 (size κ)) ≡ isHigh κ (getD s place 0)
+above-first register s place = ap (isHigh register) (number-drop place 0 1 s ∙ (number-one s (place + 0) ∙ ap (λ (n : ℕ). getD s n 0) (add-zero place)))
 above-first byte s place = refl
 above-first word s place = refl
 

@@ -49,9 +49,15 @@ longest = 8192
 abbrev pub sizeByte : List ℕ → ℕ
 sizeByte file = getD file 1 0
 
--- whether it may be one
+-- the arena's sizes, by their order, that it may be
+abbrev pub smallestSize : ℕ
+smallestSize = 5
+
+abbrev pub largestSize : ℕ
+largestSize = 16
+
 abbrev pub isSize : ℕ → Bool
-isSize m = leb 5 m && leb m 16
+isSize m = leb smallestSize m && leb m largestSize
 
 -- the number of the first record that is refused, 0 where none is
 abbrev pub recordsNumber : List ℕ → ℕ

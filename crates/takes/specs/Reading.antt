@@ -3,10 +3,11 @@ use Prim.Native.Nat.{ℕ, _+_, _-_}
 use mathlib.Core.Bool.{Bool, false, not, cond, _||_}
 use mathlib.Core.List.{List, [], _∷_}
 use mathlib.Core.Option.{Option, none, some}
-use lib.Dec.{eqb, ltb}
+use lib.Dec.{eqb, leb, ltb}
 use lib.ListN.{length, getD, drop}
 use Rattle.common.specs.Refusals.{Refusal, _when_, first}
 use Rattle.common.specs.Bytes.{bigEndian}
+use Rattle.heap.specs.Registers.{registerCount}
 use Rattle.takes.specs.Operations.{Kind, register, byte, word, size, known, kindsOf, lengthOf}
 use Rattle.takes.specs.Records.{recordOf}
 use Rattle.takes.specs.declared.Record.{Record}
@@ -18,16 +19,17 @@ abbrev pub values : List Kind → List ℕ → List ℕ
 values [] bs = []
 values (k ∷ ks) bs = bigEndian bs 0 (size k) ∷ values ks (drop (size k) bs)
 
-abbrev pub above15 : Kind → ℕ → Bool
-above15 register v = ltb 15 v
-above15 byte v = false
-above15 word v = false
+-- whether a field's value is a register past the last
+abbrev pub isHigh : Kind → ℕ → Bool
+isHigh register v = leb registerCount v
+isHigh byte v = false
+isHigh word v = false
 
--- whether a register among the fields is above 15
+-- whether one of the fields has such a value
 abbrev pub highRegister : List Kind → List ℕ → Bool
 highRegister [] vs = false
 highRegister (k ∷ ks) [] = false
-highRegister (k ∷ ks) (v ∷ vs) = above15 k v || highRegister ks vs
+highRegister (k ∷ ks) (v ∷ vs) = isHigh k v || highRegister ks vs
 
 -- the record that starts with the first of some bytes: its length byte, its operation, the values of its fields
 abbrev pub lengthByte : List ℕ → ℕ

@@ -3,15 +3,16 @@ use Prim.Native.Nat.{ℕ, _^_, _≤_, _<_}
 use mathlib.Core.Path.{_≡_}
 use mathlib.Core.List.{List, [], _∷_}
 use lib.ListN.{length, getD}
+use Rattle.heap.specs.Registers.{registerCount}
 use Rattle.takes.specs.Operations.{Kind, register, byte, word, kindsOf}
 use Rattle.takes.specs.Records.{operation, fields}
-use Rattle.takes.specs.Files.{longest, sizeByte, fileNumber, recordsOf}
+use Rattle.takes.specs.Files.{longest, sizeByte, smallestSize, largestSize, fileNumber, recordsOf}
 use Rattle.takes.specs.Writing.{fileOf}
 use Rattle.takes.specs.declared.Record.{Record}
 
 -- a value that a field of the kind may have
 abbrev pub Fits : Kind → ℕ → Type 0
-Fits register v = v ≤ 15
+Fits register v = v < registerCount
 Fits byte v = v < 256
 Fits word v = v < 2 ^ 32
 
@@ -37,5 +38,5 @@ pub record ReadsBack (m : ℕ) (rs : List Record) : Type 0 where
 
 -- both round trips of document 01's takes
 pub record RoundTrips : Type 0 where
-  pub written-reads-back : (m : ℕ) (rs : List Record) → 5 ≤ m → m ≤ 16 → RecordsFit rs → length (fileOf m rs) ≤ longest → ReadsBack m rs
+  pub written-reads-back : (m : ℕ) (rs : List Record) → smallestSize ≤ m → m ≤ largestSize → RecordsFit rs → length (fileOf m rs) ≤ longest → ReadsBack m rs
   pub read-writes-back : (file : List ℕ) → Bytes file → fileNumber file ≡ 0 → fileOf (sizeByte file) (recordsOf file) ≡ file

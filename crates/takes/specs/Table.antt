@@ -2,13 +2,15 @@
 use Prim.Native.Nat.{ℕ, _+_, _*_}
 use mathlib.Core.Bool.{Bool, false, cond}
 use mathlib.Core.List.{List, [], _∷_, _++_}
-use lib.Dec.{eqb, ltb}
+use lib.Dec.{eqb, leb}
 use lib.ListN.{take, replicate}
+use Rattle.heap.specs.Operations.{lastOperation}
+use Rattle.heap.specs.Registers.{registerCount}
 use Rattle.takes.specs.Operations.{Kind, register, byte, word, known, kindsOf, lengthOf}
 
 -- one row more than there are operations, for the number 0, and the most fields that a row has
 abbrev pub rows : ℕ
-rows = 9
+rows = lastOperation + 1
 
 abbrev pub columns : ℕ
 columns = 4
@@ -27,12 +29,12 @@ digits (k ∷ ks) = code k + 16 * digits ks
 unfoldable pub rowOf : ℕ → ℕ
 rowOf op = cond (known op) (lengthOf op + 256 * digits (kindsOf op)) 0
 
--- by a kind's number: the bytes that a field takes, and whether a value is a register above 15
+-- by a kind's number: the bytes that a field takes, and whether a value is a register past the last
 abbrev pub sizeAt : ℕ → ℕ
 sizeAt c = cond (eqb c 3) 4 1
 
 abbrev pub highAt : ℕ → ℕ → Bool
-highAt c v = cond (eqb c 1) (ltb 15 v) false
+highAt c v = cond (eqb c 1) (leb registerCount v) false
 
 -- values with zeros after them, one for each column
 abbrev pub padded : List ℕ → List ℕ

@@ -1,4 +1,8 @@
 // The take format: its operation table, the reader, the judging of a file and the writer.
+use common::index;
+use common::wide;
+use heap::operations;
+use heap::registers;
 ghost use mathlib.Core.Path.{_≡_};
 ghost use Prim.Native.Nat.{_+_, _≤_};
 ghost use mathlib.Core.Bool.{true};
@@ -45,18 +49,29 @@ pub struct Written {
 }
 
 // Where the first record starts, and how long a file may be.
-const HEAD: usize = 2;
+pub const HEAD: usize = 2;
 
-const LONGEST: usize = 8192;
+pub const LONGEST: usize = 8192;
+
+// The arena's sizes, by their order: a file's size byte is one of them.
+pub const SMALLEST_SIZE: u32 = 5;
+
+pub const LARGEST_SIZE: u32 = 16;
+
+// One past the last register.
+const REGISTERS: u32 = registers::COUNT as u32;
 
 // The kinds of a field that the code asks for by name: a register byte, and a big-endian number of four bytes. 2 is a plain byte.
 const REGISTER: u32 = 1;
 
 const WORD: u32 = 3;
 
+// One row more than there are operations.
+const ROWS: usize = operations::LAST as usize + 1;
+
 // The operation table, a row for each operation and one for 0, which is none. A row's last two hexadecimal digits are the length byte of its records;
 // those before are the kinds of its fields, the first field's digit the last. So a record is looked up once, and its kinds come one by one.
-const OPERATIONS: [u32; 9] = [
+const OPERATIONS: [u32; ROWS] = [
     // no operation
     0,
     // get d n
@@ -80,18 +95,6 @@ const OPERATIONS: [u32; 9] = [
 // The most fields that a record has.
 const FIELDS: usize = 4;
 
-fn wide(x: u8) -> u32
-    ensures { λ r. ⌜ r ≡ x ⌝ }
-{
-    x as u32
-}
-
-fn index(x: u8) -> usize
-    ensures { λ r. ⌜ r ≡ x ⌝ }
-{
-    x as usize
-}
-
 // The row of an operation, 0 where the table has no such operation.
 fn row_of(op: u8) -> u32
     ensures { λ r. ⌜ r ≡ rowOf op ⌝ }
@@ -111,14 +114,18 @@ fn size_of(kind: u32) -> usize
     if kind == WORD { 4 } else { 1 }
 }
 
-// Whether v is a register above 15.
+// Whether v is a register past the last.
 fn is_high(kind: u32, v: u32) -> bool
     ensures { λ r. ⌜ r ≡ highAt kind v ⌝ }
 {
-    if kind == REGISTER { 15 < v } else { false }
+    if kind == REGISTER {
+        REGISTERS <= v
+    } else {
+        false
+    }
 }
 
-// Whether the record at a place of the file has a register above 15. A register is one byte, so a field's first byte is enough.
+// Whether the record at a place of the file has a register past the last. A register is one byte, so a field's first byte is enough.
 fn high_in_file(file: &[u8], at: usize, kinds: u32) -> bool
     requires { ⌜ kinds ≡ digits (kindsOf (operationByte (drop at (now file)))) ⌝ }
     requires { ⌜ at + 2 + sizes (kindsOf (operationByte (drop at (now file)))) ≤ length (now file) ⌝ }
@@ -189,11 +196,11 @@ fn judge_head(file: &[u8]) -> u32
     if file.len() < HEAD {
         return 2;
     }
-    let size = file[1];
-    if size < 5 {
+    let size = wide(file[1]);
+    if size < SMALLEST_SIZE {
         return 2;
     }
-    if 16 < size {
+    if LARGEST_SIZE < size {
         return 2;
     }
     if LONGEST < file.len() {
@@ -280,7 +287,7 @@ fn parts_of(r: Record) -> Parts
     }
 }
 
-// Whether a record to be written has a register above 15.
+// Whether a record to be written has a register past the last.
 fn high_in_parts(p: Parts, kinds: u32) -> bool
     requires { ⌜ (known (p .op) ≡ true) × (length (p .values) ≡ columns) ⌝ }
     requires { ⌜ kinds ≡ digits (kindsOf (p .op)) ⌝ }
@@ -323,13 +330,13 @@ fn put_fields(out: &mut [u8], p: Parts, kinds: u32)
 pub fn write_head(out: &mut [u8], m: u32) -> Written
     ensures { λ r. ⌜ stored r (now (out .exit)) ≡ writeHead m (now (out .entry)) ⌝ }
 {
-    if m < 5 {
+    if m < SMALLEST_SIZE {
         return Written {
             number: 2,
             count: 0,
         };
     }
-    if 16 < m {
+    if LARGEST_SIZE < m {
         return Written {
             number: 2,
             count: 0,
@@ -345,7 +352,7 @@ pub fn write_head(out: &mut [u8], m: u32) -> Written
     out[1] = m as u8;
     Written {
         number: 0,
-        count: 2,
+        count: HEAD as u32,
     }
 }
 

@@ -1,5 +1,6 @@
 // The reader of a record that was judged and found good: `read` and `next` take that for granted, and judge nothing.
 use crate::Record;
+use common::index;
 ghost use mathlib.Core.Path.{_≡_};
 ghost use Prim.Native.Nat.{_+_, _≤_};
 ghost use mathlib.Core.Bool.{true};
@@ -109,5 +110,5 @@ pub fn next(file: &[u8], at: usize) -> usize
     requires { ⌜ readAt (now file) at .number ≡ 0 ⌝ }
     ensures { λ r. ⌜ r ≡ readAt (now (file .entry)) at .next ⌝ }
 {
-    at + 1 + crate::index(file[at])
+    at + 1 + index(file[at])
 }

@@ -8,8 +8,9 @@ use borrow.Author.Needs.{needs}
 use lib.ListN.{length, set, length-set}
 use lib.Seq.{set-out}
 use Rattle.takes.specs.declared.Record.{Record}
+use Rattle.heap.specs.Answers.{answerLength}
 use Rattle.heap.specs.declared.Answer.{Answer}
-use Rattle.heap.specs.Registers.{held}
+use Rattle.heap.specs.Registers.{registerCount, held}
 use Rattle.runner.specs.Decoding.{decoded, callOf, registersAfter}
 use Rattle.runner.specs.Carrying.{stateOf, oneRecord, operandsOf, storedIn}
 use Rattle.runner.specs.declared.decoding.Operands.{Operands}
@@ -75,10 +76,10 @@ module _ (c : tie.After-next Inv-loop μ-loop) where
   further : head .loop .at < c .next .result
   further = going-further (head .loop .inv) (turn .loop-test .taken) (c .before .read .result) (c .next .result) (c .before .read .ensures) (c .next .ensures)
 
-  low : (operandsOf (c .before .read .result) .a ≤ 15) × (operandsOf (c .before .read .result) .b ≤ 15)
+  low : (operandsOf (c .before .read .result) .a < registerCount) × (operandsOf (c .before .read .result) .b < registerCount)
   low = going-low (head .loop .inv) (turn .loop-test .taken) (c .before .read .result) (c .next .result) (c .before .read .ensures) (c .next .ensures)
 
-  room : head .loop .place + 5 ≤ length (head .loop .answers)
+  room : head .loop .place + answerLength ≤ length (head .loop .answers)
   room =
       omega
       (arith, going-room (head .loop .inv) (turn .loop-test .taken) (c .before .read .result) (c .next .result) (c .before .read .ensures) (c .next .ensures))
@@ -88,10 +89,10 @@ operands-of-requires c κs = search needs
 
 -- its registers a and b are among the sixteen
 module _ (c : tie.After-operands-of Inv-loop μ-loop) where
-  a-low : c .operands-of .result .a ≤ 15
+  a-low : c .operands-of .result .a < registerCount
   a-low = rw (c .operands-of .ensures) (low (c .before) .0)
 
-  b-low : c .operands-of .result .b ≤ 15
+  b-low : c .operands-of .result .b < registerCount
   b-low = rw (c .operands-of .ensures) (low (c .before) .1)
 
 cast-p : tie.Need-cast-p Inv-loop μ-loop
@@ -171,7 +172,8 @@ module _ (c : tie.After-carry-out-one Inv-loop μ-loop) where
         (called .call-with .result) x arena table rs′ answers
         (from .loop .inv .sound) (call-is called) (c .carry-out-one .ensures .0) registers-are (c .carry-out-one .ensures .1)
 
-    on : Going (start from .args .m) (file from) (start from .args .answers .now) arena table rs′ answers (next called .next .result) (from .loop .place + 5)
+    on : Going (start from .args .m) (file from) (start from .args .answers .now) arena table rs′ answers
+        (next called .next .result) (from .loop .place + answerLength)
     on =
         going-step (from .loop .inv) (turn (next called) .loop-test .taken) (item called) (next called .next .result)
         (next called .before .read .ensures) (next called .next .ensures)

@@ -7,7 +7,7 @@ use mathlib.Core.Logic.{⊎-elim}
 use native.Mathlib.Omega.{arith}
 use borrow.Author.Needs.{needs}
 use lib.ListN.{length}
-use Rattle.takes.specs.Files.{sizeByte}
+use Rattle.takes.specs.Files.{sizeByte, smallestSize, largestSize}
 use Rattle.takes.specs.declared.Judgement.{Judgement}
 use Rattle.heap.specs.Views.{slotOrder}
 use Rattle.runner.specs.Runs.{crowded}
@@ -49,10 +49,10 @@ module _ (c : tie.Else1) where
   good : Judged (file judged) (found judged)
   good = judge-accepted (file judged) (found judged) (judged .judge .ensures) (c .if1 .left)
 
-  low : 5 ≤ found judged .size
+  low : smallestSize ≤ found judged .size
   low = omega (arith, accepted-file (file judged) (good .judged) .head .low, good .size)
 
-  high : found judged .size ≤ 16
+  high : found judged .size ≤ largestSize
   high = omega (arith, accepted-file (file judged) (good .judged) .head .high, good .size)
 
 -- past the screen's

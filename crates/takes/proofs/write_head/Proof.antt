@@ -23,6 +23,9 @@ cast-out c = search needs
 slice-write-out-2 : tie.Need-slice-write-out-2
 slice-write-out-2 c = search needs
 
+cast-t8 : tie.Need-cast-t8
+cast-t8 c = search needs
+
 same-length : tie.Need-same-length
 same-length c = search needs
 
@@ -39,5 +42,6 @@ write-head-spec =
     slice-write-out
     cast-out
     slice-write-out-2
+    cast-t8
     same-length
     returns-4)

@@ -2,7 +2,9 @@
 use Prim.Native.Nat.{ℕ, suc, _<_}
 use mathlib.Core.Path.{_≡_}
 use native.Mathlib.Omega.{arith}
+use Rattle.heap.specs.Operations.{lastOperation}
 use Rattle.takes.specs.Operations.{kindsOf}
+use Rattle.takes.specs.Table.{rows}
 use Rattle.takes.proofs.Operations.{in-table}
 use Rattle.takes.proofs.Records.{arm-fits, arm-is, get-is, give-is, step-is, read-is, write-is, left-is, copy-is, fill-is}
 use Rattle.takes.proofs.unchecked.record_at.Statement.{statement}
@@ -40,10 +42,10 @@ copy-at-requires c κs = let a = c .before .before .args in arm-fits (a .file .n
 past : {op n : ℕ} → n < op → (op ≡ suc n → ⊥) → suc n < op
 past h k = omega arith
 
-only : {op : ℕ} → 7 < op → op < 9 → op ≡ 8
+only : {op : ℕ} → 7 < op → op < rows → op ≡ lastOperation
 only h k = omega arith
 
-last : (c : tie.At-match-rest) → c .before .before .args .op ≡ 8
+last : (c : tie.At-match-rest) → c .before .before .args .op ≡ lastOperation
 last c =
     let t = in-table (c .before .before .args .op) (c .before .before .pre .0) in
     let r = c .match .rest in
