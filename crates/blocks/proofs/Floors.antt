@@ -3,7 +3,7 @@ use Prim.Native.Nat.{ℕ, _+_, _-_, _*_, _/_, _^_, _≤_, _<_}
 use mathlib.Core.Path.{_≡_, refl, sym, _∙_, ap}
 use native.Mathlib.Nat.{le-trans, le-of-eq, div-mul-le-self, lt-div-mul-add, add-sub-of-le, suc-mul, add-mul, mul-le-mul-right, mul-add-div-right}
 use native.Mathlib.Omega.{arith}
-use lib.Pow.{pow-pos, pow-add, shr-lt, high}
+use lib.Pow.{pow-pos, pow-add, shr-lt, shl-shr, high}
 use Rattle.blocks.specs.Blocks.{base, floor}
 
 module _ (a i : ℕ) where
@@ -32,6 +32,9 @@ module _ (a i : ℕ) where
 -- a power of two is a multiple of a smaller one
 pub pow-split : (a b : ℕ) → a ≤ b → 2 ^ b ≡ 2 ^ (b - a) * 2 ^ a
 pow-split a b le = rw (← pow-add) (ap (λ (x : ℕ). 2 ^ x) (omega arith))
+
+pub pow-quotient : (a b : ℕ) → a ≤ b → 2 ^ b / 2 ^ a ≡ 2 ^ (b - a)
+pow-quotient a b le = ap (λ (x : ℕ). x / 2 ^ a) (pow-split a b le) ∙ shl-shr (2 ^ (b - a)) a
 
 -- an aligned block of an arena of at least its size ends within it
 pub floor-end : (a b i : ℕ) → a ≤ b → i < 2 ^ b → floor a i + 2 ^ a ≤ 2 ^ b

@@ -3,7 +3,7 @@ use Prim.Native.Nat.{ℕ, zero, suc, _+_, _-_, _*_, _/_, _%_, _^_, _≤_, _<_}
 use mathlib.Core.Bool.{Bool, true, false, _&&_, _||_, true≢false}
 use mathlib.Core.List.{List}
 use mathlib.Core.Path.{_≡_, refl, sym, ap, _∙_}
-use native.Mathlib.Nat.{add-zero, add-sub-of-le, mul-assoc}
+use native.Mathlib.Nat.{add-zero, add-sub-of-le, add-sub-cancel-left, mul-assoc}
 use native.Mathlib.Omega.{arith}
 use native.Mathlib.Decide.{decLt}
 use borrow.Author.Tests.{eq-eqb, eqb-true, eqb-false, leb-true}
@@ -64,6 +64,10 @@ run-at s e k n h j lo hi =
     eqb-true (getD s j 0) e (rw (add-sub-of-le lo) at z)
 
 -- ---- a row as a table of its own
+-- an arena whose order is 4 above that of a slot has as many slots as a row
+pub row-slots : (t : ℕ) → 2 ^ (t + 4 - t) ≡ 16
+row-slots t = rw add-sub-cancel-left
+
 -- rounding down within a row, from its first slot
 floor-row : (b i j : ℕ) → b ≤ 4 → i % 16 ≡ 0 → floor b (i + j) ≡ i + floor b j
 unfolding floor

@@ -7,7 +7,7 @@ use mathlib.Core.Path.{_≡_, refl, sym, ap, subst, _∙_}
 use native.Mathlib.Decide.{decLt}
 use native.Mathlib.Nat.{zero-add, add-zero, add-assoc, zero-mul, mul-assoc, add-mul, mul-le-mul-right, suc-mul}
 use native.Mathlib.Omega.{arith}
-use borrow.Author.Tests.{ne-eqb, eqb-true, eqb-false, not-true}
+use borrow.Author.Tests.{ne-eqb, eqb-true, eqb-false, not-true, le-leb}
 use lib.Dec.{eqb, leb}
 use lib.ListN.{length, getD}
 use lib.Pow.{pow-pos}
@@ -220,12 +220,12 @@ module _ {t k from : ℕ} {s p : List ℕ} (r : PartOf t s from k p) where
       sym (part-free i l) ∙ not-true _ taken
 
   -- one that is not told to be so is not all free
-  pub not-uniform : (x : ℕ) → x ≡ getD p 0 0 → leb x 8 && allFree (asFree p (eqb x 0)) 0 (2 ^ (k - t)) ≡ false
+  pub not-uniform : (x : ℕ) → x ≡ getD p 0 0 → leb x (t + 4) && allFree (asFree p (eqb x 0)) 0 (2 ^ (k - t)) ≡ false
       → allFree (freeIn s) from (2 ^ (k - t)) ≡ false
   not-uniform x h g = go (eqb x 0) refl g
     where
-      go : (b : Bool) → eqb x 0 ≡ b → leb x 8 && allFree (asFree p b) 0 (2 ^ (k - t)) ≡ false → allFree (freeIn s) from (2 ^ (k - t)) ≡ false
+      go : (b : Bool) → eqb x 0 ≡ b → leb x (t + 4) && allFree (asFree p b) 0 (2 ^ (k - t)) ≡ false → allFree (freeIn s) from (2 ^ (k - t)) ≡ false
       go true z g =
-          let small : leb x 8 ≡ true = rw (eqb-true x 0 z) in
+          let small : leb x (t + 4) ≡ true = le-leb x (t + 4) (omega (arith, eqb-true x 0 z)) in
           sym (all-same (freeIn p) (freeIn s) 0 from _ (λ j l. rw zero-add (part-free j l))) ∙ (rw small at g)
       go false z g = all-stop (freeIn s) from _ (pow-pos (k - t)) (rw (← first-entry, ← h) z)

@@ -2,12 +2,11 @@
 use mathlib.Core.Bool.{true, false}
 use mathlib.Core.List.{List, [], _∷_}
 use mathlib.Core.Path.{_≡_, refl}
-use Prim.Native.Nat.{ℕ}
 use lib.IntN.{pos, negsuc}
 use Rattle.blocks.specs.Blocks.{Block, floor}
 use Rattle.blocks.specs.Tables.{any, torn, bad, damagedBy, freeIn, referentIn}
 use Rattle.blocks.specs.Sets.{referentOf, entriesFrom, tableOf, blocksFrom, blocksOf}
-use Rattle.blocks.specs.Pointers.{sought, signed, exactSum, checkBits}
+use Rattle.blocks.specs.Pointers.{sought, signed, exactSum}
 use Rattle.blocks.specs.Orders.{orderOf, neededOrder}
 use Rattle.blocks.specs.Placing.{allFree, rangeStart, freeRange, maximal, lowest, atOrder, fromOrder, placeIn}
 use Rattle.blocks.specs.declared.Place.the-variants.{At, Nothing}

@@ -1,16 +1,26 @@
--- The order of an arena's length, and the order that a get of n bytes needs.
-use Prim.Native.Nat.{ℕ, zero, suc, _+_, _-_, _^_}
-use mathlib.Core.Bool.{cond}
+-- The orders of an arena, that of its length, and the order that a get of n bytes needs.
+use Prim.Native.Nat.{ℕ, zero, suc, _-_, _^_}
+use mathlib.Core.Bool.{Bool, cond, _&&_}
 use lib.Dec.{leb, eqb}
+
+-- the arena's orders
+abbrev pub smallestOrder : ℕ
+smallestOrder = 5
+
+abbrev pub largestOrder : ℕ
+largestOrder = 16
+
+abbrev pub isArenaOrder : ℕ → Bool
+isArenaOrder m = leb smallestOrder m && leb m largestOrder
 
 -- of the k orders from m on, the first whose power of two is n; 0 where there is none
 abbrev pub orderFrom : ℕ → ℕ → ℕ → ℕ
 orderFrom n zero m = 0
 orderFrom n (suc k) m = let r = orderFrom n k (suc m) in cond (eqb n (2 ^ m)) m r
 
--- the order m of an arena of n bytes, 5 to 16; 0 where n is no such length
+-- the order m of an arena of n bytes; 0 where n is no such length
 unfoldable pub orderOf : ℕ → ℕ
-orderOf n = orderFrom n 12 5
+orderOf n = orderFrom n (suc largestOrder - smallestOrder) smallestOrder
 
 -- of the orders from e on, the first with n at most its size; after k of them the next, whatever n
 abbrev pub neededFrom : ℕ → ℕ → ℕ → ℕ

@@ -1,7 +1,7 @@
 -- Document 01, "Blocks and their table": the table of an arena of 2 ^ m bytes with slots of 2 ^ t bytes. An entry is 0 for a free slot,
 -- else the order e of the block that has the slot, 2 ^ (e - t) slots in all.
-use Prim.Native.Nat.{ℕ, zero, suc, _+_, _-_, _*_, _/_, _^_}
-use mathlib.Core.Bool.{Bool, true, false, not, cond, _&&_, _||_}
+use Prim.Native.Nat.{ℕ, zero, suc, _+_, _-_, _/_, _^_}
+use mathlib.Core.Bool.{Bool, false, not, cond, _&&_, _||_}
 use mathlib.Core.List.{List}
 use lib.Dec.{leb, ltb, eqb}
 use lib.ListN.{length, getD}

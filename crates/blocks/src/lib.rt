@@ -1,4 +1,4 @@
-// Aligned blocks and their table: the damage scan, a pointer's referent, the check of a step, and the search for a free range.
+// Aligned blocks and their table: the damage scan, a pointer's referent, the check of a step, and the search for a free range. A slot has 2^t bytes.
 ghost use mathlib.Core.Path.{_≡_};
 ghost use mathlib.Core.Bool.{false};
 ghost use lib.ListN.{length};
@@ -9,25 +9,29 @@ ghost use Rattle.blocks.specs.Seeking.{fromZero};
 ghost use Rattle.blocks.specs.Tables.{damagedBy, freeIn, referentIn};
 ghost use Rattle.blocks.specs.Placing.{placeIn};
 ghost use Rattle.blocks.specs.Pointers.{sought, referentAt, marked, address, exactSum, wrappedSum, checkBits, within};
+use common::wide;
 use search::KEYS;
 use search::NOWHERE;
 
 mod scan;
 mod search;
 
-// The arena's first address, the bit that marks a pointer, and the order and size of a slot.
-const BASE: u32 = 65536;
+// The arena's first address, and the bit that marks a pointer.
+pub const BASE: u32 = 65536;
 
-const MARK: u32 = 2147483648;
+pub const MARK: u32 = 2147483648;
 
-const SLOT_ORDER: u32 = 4;
+// The smallest and the largest order of an arena, and the length of the smallest.
+pub const MIN_ORDER: u32 = 5;
 
-const SLOT_SIZE: u32 = 16;
+pub const MAX_ORDER: u32 = 16;
 
-// A row: as many slots as are compared at a time, and the order of a block that has as many.
+const MIN_LENGTH: usize = 32;
+
+// A row: as many slots as are compared at a time, and by how much the order of a block that has as many is above that of a slot.
 const ROW: usize = 16;
 
-const ROW_ORDER: u32 = 8;
+const ROW_LEVELS: u32 = 4;
 
 // The block that a pointer refers to, by its start and order.
 pub enum Referent {
@@ -45,9 +49,9 @@ pub enum Place {
 pub fn order_of(len: usize) -> u32
     ensures { λ r. ⌜ r ≡ orderOf len ⌝ }
 {
-    let mut m = 5u32;
-    let mut size = 32usize;
-    while m <= 16 {
+    let mut m = MIN_ORDER;
+    let mut size = MIN_LENGTH;
+    while m <= MAX_ORDER {
         if len == size {
             return m;
         }
@@ -64,20 +68,20 @@ pub fn size_of(e: u32) -> u32
     1u32 << e
 }
 
-// How many slots of 16 bytes a block of order e has.
-pub fn slots_of(e: u32) -> usize
-    requires { ⌜ (4 ≤ e) × (e ≤ 16) ⌝ }
-    ensures { λ r. ⌜ r ≡ 2 ^ (e - 4) ⌝ }
+// How many slots a block of order e has.
+pub fn slots_of(t: u32, e: u32) -> usize
+    requires { ⌜ (t ≤ e) × (e ≤ 16) ⌝ }
+    ensures { λ r. ⌜ r ≡ 2 ^ (e - t) ⌝ }
 {
-    size_of(e - SLOT_ORDER) as usize
+    size_of(e - t) as usize
 }
 
 // The order that a get of n bytes needs in an arena of order m.
-pub fn needed_order(m: u32, n: u32) -> u32
-    requires { ⌜ (4 ≤ m) × (m ≤ 16) ⌝ }
-    ensures { λ r. ⌜ r ≡ neededOrder 4 m n ⌝ }
+pub fn needed_order(t: u32, m: u32, n: u32) -> u32
+    requires { ⌜ (t ≤ m) × (m ≤ 16) ⌝ }
+    ensures { λ r. ⌜ r ≡ neededOrder t m n ⌝ }
 {
-    let mut e = SLOT_ORDER;
+    let mut e = t;
     while e < m {
         if n <= size_of(e) {
             return e;
@@ -117,39 +121,35 @@ pub fn address_of(p: u32) -> u32
     if is_marked(p) { p - MARK } else { p }
 }
 
-// The address at which p's referent is sought, in slots of 16 bytes.
-pub fn sought_address(p: u32) -> u32
-    ensures { λ r. ⌜ r ≡ fromZero (sought 4 p) ⌝ }
+// The address at which p's referent is sought.
+pub fn sought_address(t: u32, p: u32) -> u32
+    requires { ⌜ (1 ≤ t) × (t ≤ 16) ⌝ }
+    ensures { λ r. ⌜ r ≡ fromZero (sought t p) ⌝ }
 {
     let q = address_of(p);
     if !is_marked(p) {
         return q;
     }
-    if q % SLOT_SIZE >= SLOT_SIZE / 2 {
-        return q + SLOT_SIZE;
+    let slot = size_of(t);
+    if q % slot >= size_of(t - 1) {
+        return q + slot;
     }
-    if q < SLOT_SIZE {
+    if q < slot {
         return 0;
     }
-    q - SLOT_SIZE
-}
-
-fn wide(x: u8) -> u32
-    ensures { λ r. ⌜ r ≡ x ⌝ }
-{
-    x as u32
+    q - slot
 }
 
 // The block that holds the address q, by an undamaged table.
-pub fn referent_at(table: &[u8], m: u32, q: u32) -> Referent
-    requires { ⌜ (4 ≤ m) × (m ≤ 16) × (length (now table) ≡ 2 ^ (m - 4)) × (damagedBy 4 m (now table) ≡ false) ⌝ }
-    ensures { λ r. ⌜ r ≡ referentIn 4 (now (table .entry)) q ⌝ }
+pub fn referent_at(table: &[u8], t: u32, m: u32, q: u32) -> Referent
+    requires { ⌜ (1 ≤ t) × (t ≤ m) × (m ≤ 16) × (length (now table) ≡ 2 ^ (m - t)) × (damagedBy t m (now table) ≡ false) ⌝ }
+    ensures { λ r. ⌜ r ≡ referentIn t (now (table .entry)) q ⌝ }
 {
     if q < BASE {
         return Referent::Missing;
     }
     let x = q - BASE;
-    let i = (x / SLOT_SIZE) as usize;
+    let i = (x >> t) as usize;
     if table.len() <= i {
         return Referent::Missing;
     }
@@ -162,33 +162,33 @@ pub fn referent_at(table: &[u8], m: u32, q: u32) -> Referent
 }
 
 // The referent of a pointer, plain or marked.
-pub fn referent_of(table: &[u8], m: u32, p: u32) -> Referent
-    requires { ⌜ (4 ≤ m) × (m ≤ 16) × (length (now table) ≡ 2 ^ (m - 4)) × (damagedBy 4 m (now table) ≡ false) ⌝ }
-    ensures { λ r. ⌜ r ≡ referentAt (referentIn 4 (now (table .entry))) (sought 4 p) ⌝ }
+pub fn referent_of(table: &[u8], t: u32, m: u32, p: u32) -> Referent
+    requires { ⌜ (1 ≤ t) × (t ≤ m) × (m ≤ 16) × (length (now table) ≡ 2 ^ (m - t)) × (damagedBy t m (now table) ≡ false) ⌝ }
+    ensures { λ r. ⌜ r ≡ referentAt (referentIn t (now (table .entry))) (sought t p) ⌝ }
 {
-    referent_at(table, m, sought_address(p))
+    referent_at(table, t, m, sought_address(t, p))
 }
 
 // Whether the table of an arena of order m is damaged. The scan is lent a part that is the whole table: a slice that is handed on itself would be passed
 // through memory by every caller of this function.
-pub fn damaged(table: &[u8], m: u32) -> bool
-    requires { ⌜ (4 ≤ m) × (m ≤ 16) × (length (now table) ≡ 2 ^ (m - 4)) ⌝ }
-    ensures { λ r. ⌜ r ≡ damagedBy 4 m (now (table .entry)) ⌝ }
+pub fn damaged(table: &[u8], t: u32, m: u32) -> bool
+    requires { ⌜ (1 ≤ t) × (t ≤ m) × (m ≤ 16) × (length (now table) ≡ 2 ^ (m - t)) ⌝ }
+    ensures { λ r. ⌜ r ≡ damagedBy t m (now (table .entry)) ⌝ }
 {
     let n = table.len();
-    if m < ROW_ORDER {
-        return scan::by_slots(&table[0..n], m);
+    if m < t + ROW_LEVELS {
+        return scan::by_slots(&table[0..n], t, m);
     }
-    scan::by_rows(&table[0..n], m)
+    scan::by_rows(&table[0..n], t, m)
 }
 
 // The place for a block of order e in an arena of order m with an undamaged table: the maximal free range of the smallest order that is at
 // least e, of equals the lowest.
-pub fn find_place(table: &[u8], m: u32, e: u32) -> Place
-    requires { ⌜ (4 ≤ e) × (e ≤ m) × (m ≤ 16) × (length (now table) ≡ 2 ^ (m - 4)) × (damagedBy 4 m (now table) ≡ false) ⌝ }
-    ensures { λ r. ⌜ r ≡ placeIn (freeIn (now (table .entry))) 4 0 m e ⌝ }
+pub fn find_place(table: &[u8], t: u32, m: u32, e: u32) -> Place
+    requires { ⌜ (1 ≤ t) × (t ≤ e) × (e ≤ m) × (m ≤ 16) × (length (now table) ≡ 2 ^ (m - t)) × (damagedBy t m (now table) ≡ false) ⌝ }
+    ensures { λ r. ⌜ r ≡ placeIn (freeIn (now (table .entry))) t 0 m e ⌝ }
 {
-    let found = search::place_key(table, m, e);
+    let found = search::place_key(table, t, m, e);
     if found == NOWHERE {
         return Place::Nothing;
     }

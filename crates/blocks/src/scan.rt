@@ -4,37 +4,36 @@ ghost use mathlib.Core.Path.{_≡_};
 ghost use mathlib.Core.Bool.{_&&_};
 ghost use lib.Dec.{leb};
 ghost use lib.ListN.{length, getD};
-ghost use Prim.Native.Nat.{_-_, _^_, _≤_};
+ghost use Prim.Native.Nat.{_+_, _-_, _^_, _≤_};
 ghost use Rattle.blocks.specs.Placing.{allFree};
 ghost use Rattle.blocks.specs.Tables.{damagedBy};
 ghost use Rattle.blocks.specs.Searching.{hasEntry, single, inRow};
 use crate::ROW;
-use crate::ROW_ORDER;
-use crate::SLOT_ORDER;
+use crate::ROW_LEVELS;
 use crate::slots_of;
-use crate::wide;
+use common::wide;
 
 // Whether the table of an arena of order m is damaged. A block that is found whole is passed whole, so that each slot is looked at once, or twice where
 // it is the first of a block. The range of a block that is no single slot is compared two slots at a time: a third
 // of the time less on small blocks.
-pub fn by_slots(table: &[u8], m: u32) -> bool
-    requires { ⌜ (4 ≤ m) × (m ≤ 16) × (length (now table) ≡ 2 ^ (m - 4)) ⌝ }
-    ensures { λ r. ⌜ r ≡ damagedBy 4 m (now (table .entry)) ⌝ }
+pub fn by_slots(table: &[u8], t: u32, m: u32) -> bool
+    requires { ⌜ (1 ≤ t) × (t ≤ m) × (m ≤ 16) × (length (now table) ≡ 2 ^ (m - t)) ⌝ }
+    ensures { λ r. ⌜ r ≡ damagedBy t m (now (table .entry)) ⌝ }
 {
     let mut found = false;
     let mut i = 0usize;
     'scan: while i < table.len() {
         let x = table[i];
-        if is_single(x) {
+        if is_single(t, x) {
             i += 1;
             continue 'scan;
         }
         let e = wide(x);
-        if !is_order(e, m) {
+        if !is_order(t, e, m) {
             found = true;
             break 'scan;
         }
-        let slots = slots_of(e);
+        let slots = slots_of(t, e);
         let from = i / slots * slots;
         let to = from + slots;
         let mut k = from;
@@ -55,18 +54,18 @@ pub fn by_slots(table: &[u8], m: u32) -> bool
 }
 
 // The same for a table of rows: a row of blocks that lie in it is a table of its own, and a larger block has rows alike.
-pub fn by_rows(table: &[u8], m: u32) -> bool
-    requires { ⌜ (8 ≤ m) × (m ≤ 16) × (length (now table) ≡ 2 ^ (m - 4)) ⌝ }
-    ensures { λ r. ⌜ r ≡ damagedBy 4 m (now (table .entry)) ⌝ }
+pub fn by_rows(table: &[u8], t: u32, m: u32) -> bool
+    requires { ⌜ (1 ≤ t) × (t + 4 ≤ m) × (m ≤ 16) × (length (now table) ≡ 2 ^ (m - t)) ⌝ }
+    ensures { λ r. ⌜ r ≡ damagedBy t m (now (table .entry)) ⌝ }
 {
     let mut found = false;
     let mut i = 0usize;
     'scan: while i < table.len() {
         let x = table[i];
         let e = wide(x);
-        if e <= ROW_ORDER {
+        if e <= t + ROW_LEVELS {
             let end = i + ROW;
-            if row_damaged(&table[i..end]) {
+            if row_damaged(&table[i..end], t) {
                 found = true;
                 break 'scan;
             }
@@ -77,7 +76,7 @@ pub fn by_rows(table: &[u8], m: u32) -> bool
             found = true;
             break 'scan;
         }
-        let slots = slots_of(e);
+        let slots = slots_of(t, e);
         let from = i / slots * slots;
         let to = from + slots;
         let mut at = from;
@@ -95,36 +94,37 @@ pub fn by_rows(table: &[u8], m: u32) -> bool
 }
 
 // Whether a row, as the table of an arena of as many slots, is damaged.
-fn row_damaged(row: &[u8]) -> bool
-    requires { ⌜ length (now row) ≡ 16 ⌝ }
-    ensures { λ r. ⌜ r ≡ damagedBy 4 8 (now (row .entry)) ⌝ }
+fn row_damaged(row: &[u8], t: u32) -> bool
+    requires { ⌜ (1 ≤ t) × (t + 4 ≤ 16) × (length (now row) ≡ 16) ⌝ }
+    ensures { λ r. ⌜ r ≡ damagedBy t (t + 4) (now (row .entry)) ⌝ }
 {
-    if even(row) {
+    if even(row, t) {
         return false;
     }
-    by_slots(row, ROW_ORDER)
+    by_slots(row, t, t + ROW_LEVELS)
 }
 
 // Whether the slots of a row are all free, or all of blocks of one order that lie in it.
-fn even(row: &[u8]) -> bool
-    requires { ⌜ length (now row) ≡ 16 ⌝ }
-    ensures { λ r. ⌜ r ≡ inRow 4 (getD (now (row .entry)) 0 0) && allFree (hasEntry (now (row .entry)) (getD (now (row .entry)) 0 0)) 0 16 ⌝ }
+fn even(row: &[u8], t: u32) -> bool
+    requires { ⌜ (t ≤ 16) × (length (now row) ≡ 16) ⌝ }
+    ensures { λ r. ⌜ r ≡ inRow t (getD (now (row .entry)) 0 0) && allFree (hasEntry (now (row .entry)) (getD (now (row .entry)) 0 0)) 0 16 ⌝ }
 {
     let x = row[0];
-    if !in_a_row(x) {
+    if !in_a_row(t, x) {
         return false;
     }
     alike(row, x)
 }
 
 // Whether the entry x is of a free slot, or of a block of at most a row.
-fn in_a_row(x: u8) -> bool
-    ensures { λ r. ⌜ r ≡ inRow 4 x ⌝ }
+fn in_a_row(t: u32, x: u8) -> bool
+    requires { ⌜ t ≤ 16 ⌝ }
+    ensures { λ r. ⌜ r ≡ inRow t x ⌝ }
 {
     if x == 0 {
         return true;
     }
-    is_order(wide(x), ROW_ORDER)
+    is_order(t, wide(x), t + ROW_LEVELS)
 }
 
 // Whether each slot of a row has the entry x. It looks at every slot, so that the compiler compares them at once, and from the last one down.
@@ -144,21 +144,21 @@ fn alike(row: &[u8], x: u8) -> bool
 }
 
 // Whether e is the order of a block in an arena of order m.
-fn is_order(e: u32, m: u32) -> bool
-    ensures { λ r. ⌜ r ≡ leb 4 e && leb e m ⌝ }
+fn is_order(t: u32, e: u32, m: u32) -> bool
+    ensures { λ r. ⌜ r ≡ leb t e && leb e m ⌝ }
 {
-    if e < SLOT_ORDER {
+    if e < t {
         return false;
     }
     e <= m
 }
 
 // Whether an entry speaks of its slot alone: the slot is free, or a block.
-fn is_single(x: u8) -> bool
-    ensures { λ r. ⌜ r ≡ single 4 x ⌝ }
+fn is_single(t: u32, x: u8) -> bool
+    ensures { λ r. ⌜ r ≡ single t x ⌝ }
 {
     if x == 0 {
         return true;
     }
-    wide(x) == SLOT_ORDER
+    wide(x) == t
 }

@@ -10,10 +10,9 @@ ghost use Rattle.blocks.specs.Placing.{allFree};
 ghost use Rattle.blocks.specs.Tables.{freeIn};
 ghost use Rattle.blocks.specs.Searching.{bitsOf, asFree, decidedBy, SearchedBits, SearchedPart};
 use crate::ROW;
-use crate::ROW_ORDER;
-use crate::SLOT_ORDER;
+use crate::ROW_LEVELS;
 use crate::size_of;
-use crate::wide;
+use common::wide;
 
 // How many keys an order has: more than there are slots.
 pub const KEYS: u32 = 65536;
@@ -26,30 +25,30 @@ const UNDECIDED: u32 = 0;
 
 // The key for a block of order e in an arena of order m with this undamaged table. An arena of at most a row is spared the frame of the
 // recursion on parts, a fifth of the time of a small search.
-pub fn place_key(table: &[u8], m: u32, e: u32) -> u32
-    requires { ⌜ (4 ≤ e) × (e ≤ m) × (m ≤ 16) × (length (now table) ≡ 2 ^ (m - 4)) ⌝ }
-    ensures { λ r. ⌜ SearchedPart 4 (now (table .entry)) 0 m e r ⌝ }
+pub fn place_key(table: &[u8], t: u32, m: u32, e: u32) -> u32
+    requires { ⌜ (1 ≤ t) × (t ≤ e) × (e ≤ m) × (m ≤ 16) × (length (now table) ≡ 2 ^ (m - t)) ⌝ }
+    ensures { λ r. ⌜ SearchedPart t (now (table .entry)) 0 m e r ⌝ }
 {
-    if m <= ROW_ORDER {
-        return search_row(table, 0, m, e);
+    if m <= t + ROW_LEVELS {
+        return search_row(table, t, 0, m, e);
     }
-    search(table, 0, m, e)
+    search(table, t, 0, m, e)
 }
 
 // The key for a block of order e in a part of order k, which begins at the slot `from` of an undamaged table. A part that lies in a block, or is all
 // free or all taken, or has the order that is sought, is answered at once. So is one that has a range of order e in its left half: none is better.
-fn search(part: &[u8], from: usize, k: u32, e: u32) -> u32
-    requires { ⌜ (4 ≤ e) × (e ≤ k) × (k ≤ 16) × (length (now part) ≡ 2 ^ (k - 4)) × (from + 2 ^ (k - 4) ≤ 65536) ⌝ }
-    ensures { λ r. ⌜ SearchedPart 4 (now (part .entry)) from k e r ⌝ }
+fn search(part: &[u8], t: u32, from: usize, k: u32, e: u32) -> u32
+    requires { ⌜ (1 ≤ t) × (t ≤ e) × (e ≤ k) × (k ≤ 16) × (length (now part) ≡ 2 ^ (k - t)) × (from + 2 ^ (k - t) ≤ 65536) ⌝ }
+    ensures { λ r. ⌜ SearchedPart t (now (part .entry)) from k e r ⌝ }
 {
-    if k <= ROW_ORDER {
-        return search_row(part, from, k, e);
+    if k <= t + ROW_LEVELS {
+        return search_row(part, t, from, k, e);
     }
     let x = wide(part[0]);
     if k <= x {
         return NOWHERE;
     }
-    if uniform(part, x) {
+    if uniform(part, t, x) {
         return if x == 0 { key(from, k) } else { NOWHERE };
     }
     if k == e {
@@ -57,21 +56,21 @@ fn search(part: &[u8], from: usize, k: u32, e: u32) -> u32
     }
     let n = part.len();
     let half = n / 2;
-    let left = search(&part[0..half], from, k - 1, e);
+    let left = search(&part[0..half], t, from, k - 1, e);
     if is_exact(left, e) {
         return left;
     }
-    let right = search(&part[half..n], from + half, k - 1, e);
+    let right = search(&part[half..n], t, from + half, k - 1, e);
     if right < left { right } else { left }
 }
 
 // Whether a part of whole rows, with x the entry of its first slot, is all free, or all taken. A part that begins with a block of more than a
 // row is told apart at once, as if it were neither: its halves are answered without a look at its rows.
-fn uniform(part: &[u8], x: u32) -> bool
-    requires { ⌜ length (now part) % 16 ≡ 0 ⌝ }
-    ensures { λ r. ⌜ r ≡ leb x 8 && allFree (asFree (now (part .entry)) (eqb x 0)) 0 (length (now (part .entry))) ⌝ }
+fn uniform(part: &[u8], t: u32, x: u32) -> bool
+    requires { ⌜ (t ≤ 16) × (length (now part) % 16 ≡ 0) ⌝ }
+    ensures { λ r. ⌜ r ≡ leb x (t + 4) && allFree (asFree (now (part .entry)) (eqb x 0)) 0 (length (now (part .entry))) ⌝ }
 {
-    if ROW_ORDER < x {
+    if t + ROW_LEVELS < x {
         return false;
     }
     let mut i = 0usize;
@@ -103,16 +102,16 @@ fn row_is(row: &[u8], free: bool) -> bool
 }
 
 // The key for a block of order e in a part of order k of at most a row, which begins at the slot `from` of the table.
-fn search_row(part: &[u8], from: usize, k: u32, e: u32) -> u32
-    requires { ⌜ (4 ≤ e) × (e ≤ k) × (k ≤ 8) × (length (now part) ≡ 2 ^ (k - 4)) × (from + 2 ^ (k - 4) ≤ 65536) ⌝ }
-    ensures { λ r. ⌜ SearchedPart 4 (now (part .entry)) from k e r ⌝ }
+fn search_row(part: &[u8], t: u32, from: usize, k: u32, e: u32) -> u32
+    requires { ⌜ (1 ≤ t) × (t ≤ e) × (e ≤ k) × (k ≤ t + 4) × (k ≤ 16) × (length (now part) ≡ 2 ^ (k - t)) × (from + 2 ^ (k - t) ≤ 65536) ⌝ }
+    ensures { λ r. ⌜ SearchedPart t (now (part .entry)) from k e r ⌝ }
 {
     let bits = free_bits(part);
-    let found = decided(bits, size_of(k - SLOT_ORDER), from, k, e);
+    let found = decided(bits, t, from, k, e);
     if found != UNDECIDED {
         return found;
     }
-    search_bits(bits, from, k, e)
+    search_bits(bits, t, from, k, e)
 }
 
 // The free slots of a part of at most a row, as bits: the first slot is the lowest.
@@ -132,15 +131,15 @@ fn free_bits(part: &[u8]) -> u32
     bits
 }
 
-// The answer for a part of n slots with these free ones, where no half needs to be looked at: none is free, all are, or the part has the order that
-// is sought.
-fn decided(bits: u32, n: u32, from: usize, k: u32, e: u32) -> u32
-    requires { ⌜ (4 ≤ e) × (e ≤ k) × (k ≤ 8) × (n ≡ 2 ^ (k - 4)) × (from + n ≤ 65536) ⌝ }
-    ensures { λ r. ⌜ r ≡ decidedBy 4 bits from k e ⌝ }
+// The answer for a part with these free slots, where no half needs to be looked at: none is free, all are, or the part has the order that is sought.
+fn decided(bits: u32, t: u32, from: usize, k: u32, e: u32) -> u32
+    requires { ⌜ (t ≤ k) × (k ≤ t + 4) × (k ≤ 16) × (from + 2 ^ (k - t) ≤ 65536) ⌝ }
+    ensures { λ r. ⌜ r ≡ decidedBy t bits from k e ⌝ }
 {
     if bits == 0 {
         return NOWHERE;
     }
+    let n = size_of(k - t);
     if bits == size_of(n) - 1 {
         return key(from, k);
     }
@@ -151,23 +150,23 @@ fn decided(bits: u32, n: u32, from: usize, k: u32, e: u32) -> u32
 }
 
 // The answer for a part that is not decided, by its halves. Each is decided before it is searched, which saves most calls.
-fn search_bits(bits: u32, from: usize, k: u32, e: u32) -> u32
-    requires { ⌜ (4 ≤ e) × (e < k) × (k ≤ 8) × (from + 2 ^ (k - 4) ≤ 65536) ⌝ }
-    ensures { λ r. ⌜ SearchedBits 4 bits from k e r ⌝ }
+fn search_bits(bits: u32, t: u32, from: usize, k: u32, e: u32) -> u32
+    requires { ⌜ (1 ≤ t) × (t ≤ e) × (e < k) × (k ≤ t + 4) × (k ≤ 16) × (from + 2 ^ (k - t) ≤ 65536) ⌝ }
+    ensures { λ r. ⌜ SearchedBits t bits from k e r ⌝ }
 {
-    let half = size_of(k - 1 - SLOT_ORDER);
+    let half = size_of(k - 1 - t);
     let size = size_of(half);
-    let mut left = decided(bits % size, half, from, k - 1, e);
+    let mut left = decided(bits % size, t, from, k - 1, e);
     if left == UNDECIDED {
-        left = search_bits(bits % size, from, k - 1, e);
+        left = search_bits(bits % size, t, from, k - 1, e);
     }
     if is_exact(left, e) {
         return left;
     }
     let mid = from + half as usize;
-    let mut right = decided(bits / size, half, mid, k - 1, e);
+    let mut right = decided(bits / size, t, mid, k - 1, e);
     if right == UNDECIDED {
-        right = search_bits(bits / size, mid, k - 1, e);
+        right = search_bits(bits / size, t, mid, k - 1, e);
     }
     if right < left { right } else { left }
 }

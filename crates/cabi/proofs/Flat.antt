@@ -1,6 +1,6 @@
 -- Flat records and takes' records, each from the other.
 use Prim.Native.Nat.{ℕ, _≤_, _<_}
-use mathlib.Core.Path.{_≡_, refl, sym, _∙_, ap}
+use mathlib.Core.Path.{_≡_, sym, _∙_, ap}
 use mathlib.Core.List.{List}
 use borrow.Author.Tests.{le-leb, lt-leb, ne-eqb}
 use Rattle.heap.specs.Operations.{lastOperation}
@@ -10,7 +10,7 @@ use Rattle.takes.specs.declared.Record.{Record}
 use Rattle.takes.specs.declared.Record.the-variants.{Fill}
 use Rattle.takes.specs.declared.Reading.{Reading}
 use Rattle.takes.specs.declared.Reading.the-variants.{Found, Refused}
-use Rattle.cabi.specs.Flat.{flat, flatFound, placed, recordAs, recordOf, unknown, writeFlat}
+use Rattle.cabi.specs.Flat.{flat, placed, recordAs, recordOf, unknown, writeFlat}
 use Rattle.cabi.specs.declared.FlatRecord.{FlatRecord}
 
 pub flat-is : {r s : Record} → r ≡ s → flat s ≡ flat r

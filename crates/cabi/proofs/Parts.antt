@@ -1,15 +1,15 @@
 -- The part that show hands back, by what left answers for the same p.
 use Prim.Native.Nat.{ℕ, _+_, _-_, _≤_, min}
-use mathlib.Core.Path.{_≡_, refl, sym, _∙_, ap, ap₂}
+use mathlib.Core.Path.{_≡_, sym, _∙_, ap}
 use mathlib.Core.List.{List}
 use native.Mathlib.Omega.{arith}
 use lib.ListN.{length, take, drop, length-take, length-drop}
+use Rattle.blocks.specs.Blocks.{base}
 use Rattle.heap.specs.Heaps.{Heap, heapOf, heapCall, outcome, pointerNumber, shown, shownFrom}
 use Rattle.heap.specs.declared.Answer.{Answer}
 use Rattle.heap.specs.declared.Call.the-variants.{Left}
 use Rattle.heap.proofs.Showing.{left-number, shown-inside, shown-part, shown-place, shown-empty, shown-nowhere}
 use Rattle.cabi.specs.Parts.{partOf}
-use Rattle.cabi.specs.declared.Part.{Part}
 
 -- a part of a list that lies in it has its own length
 taken : (n k : ℕ) (l : List ℕ) → k + n ≤ length l → n ≡ length (take n (drop k l))
@@ -28,7 +28,7 @@ module _ (p : ℕ) (a t : List ℕ) (r : Answer) (e : outcome r a t ≡ heapCall
   pub refused-part : (r .number ≡ 0 → ⊥) → record { number = r .number; offset = 0; length = 0 } ≡ partOf p h
   refused-part n = part-is number-is (shown-nowhere p a t r e n) (ap length (shown-empty p a t r e n))
 
-  pub accepted-part : r .number ≡ 0 → record { number = 0; offset = p - 65536; length = r .value } ≡ partOf p h
+  pub accepted-part : r .number ≡ 0 → record { number = 0; offset = p - base; length = r .value } ≡ partOf p h
   accepted-part z =
       part-is (sym z ∙ number-is) (shown-place p a t r e z)
-      (taken (r .value) (p - 65536) a (shown-inside p a t r e z .1) ∙ ap length (shown-part p a t r e z))
+      (taken (r .value) (p - base) a (shown-inside p a t r e z .1) ∙ ap length (shown-part p a t r e z))

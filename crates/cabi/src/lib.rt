@@ -1,5 +1,6 @@
 // The C interface: the heap's calls, both runs, replay, reader and writer under one prefix, with structs by value and slices as pointer and length. What C sees
 // of it stands in include/tulivombe.h.
+use blocks::BASE;
 use heap::Answer;
 use heap::operations;
 use runner::Ran;
@@ -132,7 +133,7 @@ pub extern "C" fn tulivombe_show(arena: &[u8], table: &[u8], p: u32) -> Part
     }
     Part {
         number: 0,
-        offset: p - 65536,
+        offset: p - BASE,
         length: left.value,
     }
 }

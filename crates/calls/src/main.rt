@@ -1,12 +1,21 @@
 // Makes the calls that standard input lists on one heap, a line each, and prints what each answers: its number and value, or for `show` its
 // number and bytes. Five words are no calls: `heap M` makes fresh buffers of order M, `only A T` lends A and T bytes from then on, `poke I V`
 // sets entry I of the table to V, `arena` and `table` print a buffer. What stands after a line's numbers is passed over.
+use common::wide;
 use heap::Answer;
+use heap::SLOT_ORDER;
 use libc::STDIN_FILENO;
 use libc::STDOUT_FILENO;
 ghost use Prim.Native.Nat.{_+_, _≤_, _<_};
 ghost use lib.ListN.{length};
-ghost use Rattle.calls.specs.Bounds.{Past, Lendable};
+ghost use Rattle.calls.specs.Bounds.{Past, arenaMost, tableMost, Lendable};
+
+// The lengths of the largest arena and its table, and how much text is read.
+const ARENA: usize = 65536;
+
+const TABLE: usize = 4096;
+
+const TEXT: usize = 16384;
 
 // A line's word, by its first two bytes as one number, and the three numbers after it.
 struct Line {
@@ -20,10 +29,6 @@ struct Line {
 struct Lent {
     arena: usize,
     table: usize,
-}
-
-fn wide(x: u8) -> u32 {
-    x as u32
 }
 
 fn low(x: u32) -> u8 {
@@ -179,21 +184,22 @@ fn lent_by(l: Line, before: Lent) -> Lent
         // he, on
         0x6865 => {
             let size = blocks::size_of(l.a % 17) as usize;
+            let slots = size >> SLOT_ORDER;
             Lent {
                 arena: size,
-                table: size / 16,
+                table: slots,
             }
         }
         0x6f6e => Lent {
-            arena: least(l.a, 65536),
-            table: least(l.b, 4096),
+            arena: least(l.a, ARENA),
+            table: least(l.b, TABLE),
         },
         _ => before,
     }
 }
 
 fn run(text: &[u8], arena: &mut [u8], table: &mut [u8])
-    requires { ⌜ (65536 ≤ length (now arena)) × (4096 ≤ length (now table)) ⌝ }
+    requires { ⌜ (arenaMost ≤ length (now arena)) × (tableMost ≤ length (now table)) ⌝ }
 {
     let mut lent = Lent { arena: 0, table: 0 };
     let mut at = 0usize;
@@ -208,7 +214,7 @@ fn run(text: &[u8], arena: &mut [u8], table: &mut [u8])
 }
 
 fn main() {
-    let mut text = [0u8; 16384];
+    let mut text = [0u8; TEXT];
     let mut arena = io::large_buffer();
     let mut table = io::buffer();
     let n = io::read_full(STDIN_FILENO, &mut text);

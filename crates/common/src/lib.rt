@@ -1,4 +1,4 @@
-// What every crate above shares: big-endian numbers in a lent slice, and a part of it filled or copied.
+// What every crate above shares: a byte as a wider number, big-endian numbers in a lent slice, and a part of it filled or copied.
 ghost use mathlib.Core.Path.{_≡_};
 ghost use Prim.Native.Nat.{_+_, _≤_, min};
 ghost use lib.ListN.{length, replicate};

@@ -1,8 +1,8 @@
 -- What a call may rely on of a pointer's referent, and the outcomes of the calls that go by it.
-use Prim.Native.Nat.{ℕ, _+_, _-_, _*_, _/_, _^_, _≤_, _<_, min}
+use Prim.Native.Nat.{ℕ, _+_, _-_, _*_, _/_, _^_, _≤_, _<_, min, max}
 use mathlib.Core.Path.{_≡_, refl, sym, _∙_, ap, ap₂, subst}
 use mathlib.Core.Bool.{Bool, true, false, cond, _||_}
-use mathlib.Core.List.{List, [], _∷_}
+use mathlib.Core.List.{List, [], _∷_, _++_}
 use native.Mathlib.Nat.{add-mul, mul-div-cancel}
 use native.Mathlib.Omega.{arith}
 use borrow.Author.Tests.{leb-false, eqb-true, lt-ltb, le-ltb, not-false}
@@ -18,14 +18,17 @@ use Rattle.blocks.specs.declared.Referent.{Referent}
 use Rattle.blocks.specs.declared.Referent.the-variants.{Found}
 use Rattle.blocks.proofs.Floors.{pow-split, floor-same}
 use Rattle.blocks.proofs.Referents.{referent-block, referent-from-zero}
-use Rattle.heap.specs.Views.{View, slotOrder, referentOfPointer}
-use Rattle.heap.specs.Rules.{badWidth, dead, argumentRules, stateRules}
-use Rattle.heap.specs.Effects.{value, stored, leftFrom}
+use Rattle.heap.specs.Views.{View, referentOfPointer, leftFrom}
+use Rattle.heap.specs.Rules.{badWidth, dead, homeRules, argumentRules, stateRules}
+use Rattle.heap.specs.Effects.{value, stored}
 use Rattle.heap.specs.Heaps.{heapOf, heapView, entered, heapStep, outcome}
-use Rattle.heap.specs.Judging.{Sound, Ready, Holding}
+use Rattle.heap.specs.Judging.{Sound, Ready, Holding, located, numberIn}
+use Rattle.heap.specs.Changes.{changeOf}
 use Rattle.heap.specs.declared.Call.{Call}
 use Rattle.heap.specs.declared.Call.the-variants.{Left, Copy, Fill}
-use Rattle.heap.proofs.Judging.{condOf, argument-clear, answer, step-refused, step-accepted}
+use Rattle.heap.specs.declared.refusals.Located.the-variants.{Refused, Inside}
+use Rattle.heap.proofs.Judging.{condOf, first-stays, first-goes-on, argument-clear, answer, step-refused, step-accepted}
+use Rattle.heap.proofs.Homes.{located-number, located-refused, located-inside}
 
 -- a block of an arena starts at a multiple of its size
 aligned-floor : (t m s e : ℕ) → e ≤ 16 → Aligned t m (record { start = s; order = e }) → floor e s ≡ s
@@ -41,9 +44,9 @@ address-low p l = go (marked p) refl
     go true n = omega arith
     go false n = leb-false markBit p n
 
--- the block of order e at s, in an arena of 2 ^ m bytes, holds the address h
-pub record Within (m s e h : ℕ) : Type 0 where
-  pub aligned : Aligned slotOrder m (record { start = s; order = e })
+-- the block of order e at s, in an arena of 2 ^ m bytes in slots of 2 ^ t, holds the address h
+pub record Within (t m s e h : ℕ) : Type 0 where
+  pub aligned : Aligned t m (record { start = s; order = e })
   pub order : e ≤ 16
   pub above : base ≤ s
   pub low : s ≤ h
@@ -51,13 +54,13 @@ pub record Within (m s e h : ℕ) : Type 0 where
   pub inside : s + 2 ^ e ≤ base + 2 ^ m
   pub top : base + 2 ^ m ≤ 2 ^ 17
 
-module _ (m : ℕ) (a t : List ℕ) (g : Sound m a t) where
+module _ (t m : ℕ) (a tab : List ℕ) (g : Sound t m a tab) where
   abbrev w : View
-  w = heapView m (heapOf a t)
+  w = heapView t m (heapOf a tab)
 
-  pub found-within : (p s e : ℕ) → referentOfPointer w p ≡ Found s e → Within m s e (fromZero (sought slotOrder p))
+  pub found-within : (p s e : ℕ) → referentOfPointer w p ≡ Found s e → Within t m s e (fromZero (sought t p))
   found-within p s e f =
-      let b = referent-block slotOrder m t (g .slots) (g .whole) (fromZero (sought slotOrder p)) s e (referent-from-zero slotOrder t (sought slotOrder p) ∙ f) in
+      let b = referent-block t m tab (g .slots) (g .whole) (fromZero (sought t p)) s e (referent-from-zero t tab (sought t p) ∙ f) in
       let x : s + 2 ^ e ≤ base + 2 ^ m = b .aligned .inside in
       record {
         aligned = b .aligned;
@@ -69,23 +72,25 @@ module _ (m : ℕ) (a t : List ℕ) (g : Sound m a t) where
         top = omega (arith, pow-mono (g .high));
       }
 
-  pub plain-within : (p s e : ℕ) → marked p ≡ false → referentOfPointer w p ≡ Found s e → Within m s e p
+  pub plain-within : (p s e : ℕ) → marked p ≡ false → referentOfPointer w p ≡ Found s e → Within t m s e p
   unfolding sought
-  plain-within p s e n f = subst (λ (x : ℕ). Within m s e x) (rw n) (found-within p s e f)
+  plain-within p s e n f = subst (λ (x : ℕ). Within t m s e x) (rw n) (found-within p s e f)
 
-  pub found-holding : (p s e : ℕ) → p < 2 ^ 32 → referentOfPointer w p ≡ Found s e → Holding s e (fromZero (sought slotOrder p)) (address p)
-  found-holding p s e l f =
-      let x = found-within p s e f in
-      let r : floor e s ≡ s = aligned-floor slotOrder m s e (x .order) (x .aligned) in
+  pub found-holding : (p : ℕ) {s e : ℕ} → p < 2 ^ 32 → located w p ≡ Inside s e → Holding t s e (fromZero (sought t p)) (address p)
+  found-holding p {s} {e} l f =
+      let x = found-within p s e (located-inside w p f .1) in
+      let r : floor e s ≡ s = aligned-floor t m s e (x .order) (x .aligned) in
       record {
+        slot-low = g .slot-low;
+        slot-high = omega (arith, g .slot-high, g .high);
         order = x .order;
         low = x .above;
         high = omega (arith, x .inside, x .top);
-        round = sym r ∙ sym (floor-same e s (fromZero (sought slotOrder p)) (omega (arith, x .low)) (omega (arith, x .high)));
+        round = sym r ∙ sym (floor-same e s (fromZero (sought t p)) (omega (arith, x .low)) (omega (arith, x .high)));
         near = address-low p l;
       }
 
-module _ {m s e p : ℕ} (x : Within m s e p) where
+module _ {t m s e p : ℕ} (x : Within t m s e p) where
   pub left-asks : (e ≤ 16) × (s ≤ p) × (p < s + 2 ^ e) × (s < 2 ^ 31)
   left-asks = (x .order, x .low, x .high, omega (arith, x .inside, x .top))
 
@@ -103,50 +108,90 @@ narrow k n = go (eqb k 1) (eqb k 2) refl refl (not-false _ n)
     go false true u v w = omega (arith, eqb-true k 2 v)
     go false false u v w = omega (arith, eqb-true k 4 w)
 
--- the outcomes of a call that is judged by its pointer p
-module _ (m : ℕ) (c : Call) (a t : List ℕ) (z : Ready m c a t) where
+-- the outcomes of a call that goes by the referent of its pointer p first, and then by rules of its own
+module _ (t m : ℕ) (c : Call) (a tab : List ℕ) (z : Ready t m c a tab) where
   abbrev v : View
-  v = heapView m (heapOf a t)
+  v = heapView t m (heapOf a tab)
 
-  pub missing-refused : (b : Bool) (rs : List Refusal) → stateRules m c v ≡ 22 when b ∷ rs → b ≡ true → outcome (answer 22 0) a t ≡ heapStep m c (heapOf a t)
-  missing-refused b rs q f = step-refused m c a t z 22 (sym (ap first q ∙ rw f)) (λ x. omega arith)
+  module _ (p : ℕ) (own : List Refusal) (q : stateRules c v ≡ homeRules v p ++ own) where
+    pub home-refused : (k : ℕ) → located v p ≡ Refused k → outcome (answer k 0) a tab ≡ heapStep t m c (heapOf a tab)
+    home-refused k l =
+        let (e, n) = located-refused v p k l in
+        step-refused t m c a tab z k (sym (ap first q ∙ first-stays (homeRules v p) own (λ x. n (sym e ∙ x)) ∙ e)) n
 
-  module _ (p s e : ℕ) (f : referentOfPointer v p ≡ Found s e) where
-    -- a call that takes plain pointers
-    pub spot : (condOf 13 (argumentRules m c) ≡ false → marked p ≡ false) → Within m s e p
-    spot q = plain-within m a t (z .sound) p s e (q (argument-clear m c a t z 13)) f
+    pub home-first : {s e : ℕ} → located v p ≡ Inside s e → first (stateRules c v) ≡ first own
+    home-first l = ap first q ∙ first-goes-on (homeRules v p) own refl (located-inside v p l .0)
 
-    -- it has k bytes from p on
-    module _ (k : ℕ) (q : stateRules m c v ≡ 22 when dead v p ∷ 25 when ltb (leftFrom v p) k ∷ []) where
-      pub short-refused : leftIn (Found s e) p < k → outcome (answer 25 0) a t ≡ heapStep m c (heapOf a t)
-      short-refused l = step-refused m c a t z 25 (sym (ap first q ∙ rw (f, lt-ltb (leftIn (Found s e) p) k l))) (λ x. omega arith)
+  module _ (p : ℕ) {s e : ℕ} (l : located v p ≡ Inside s e) where
+    -- it takes plain pointers
+    pub spot : (condOf 13 (argumentRules m c) ≡ false → marked p ≡ false) → Within t m s e p
+    spot q = plain-within t m a tab (z .sound) p s e (q (argument-clear t m c a tab z 13)) (located-inside v p l .1)
 
-      pub long-accepted : k ≤ leftIn (Found s e) p → outcome (answer 0 (value m c v a)) (stored m c v a) (entered m c v t) ≡ heapStep m c (heapOf a t)
-      long-accepted l = step-accepted m c a t z (ap first q ∙ rw (f, le-ltb (leftIn (Found s e) p) k l))
+    -- it needs k bytes from p on
+    module _ (k : ℕ) (q : stateRules c v ≡ homeRules v p ++ (25 when ltb (leftFrom v p) k ∷ [])) where
+      own-first : (b : Bool) → ltb (leftIn (Found s e) p) k ≡ b → first (stateRules c v) ≡ cond b 25 0
+      own-first b h = home-first p _ q l ∙ rw (located-inside v p l .1, h)
 
-module _ (m : ℕ) (a t : List ℕ) (p s e : ℕ) (f : referentOfPointer (heapView m (heapOf a t)) p ≡ Found s e) where
-  left-is : (l : ℕ) → l ≡ leftIn (Found s e) p → l ≡ leftFrom (heapView m (heapOf a t)) p
-  left-is l q = q ∙ ap (λ (h : Referent). leftIn h p) (sym f)
+      pub short-refused : leftIn (Found s e) p < k → outcome (answer 25 0) a tab ≡ heapStep t m c (heapOf a tab)
+      short-refused h = step-refused t m c a tab z 25 (sym (own-first true (lt-ltb (leftIn (Found s e) p) k h))) (λ x. omega arith)
 
-  pub left-done : (l : ℕ) → Ready m (Left p) a t → l ≡ leftIn (Found s e) p → outcome (answer 0 l) a t ≡ heapStep m (Left p) (heapOf a t)
+      pub long-accepted : k ≤ leftIn (Found s e) p
+          → outcome (answer 0 (value c v a)) (stored c v a) (entered (changeOf c) v tab) ≡ heapStep t m c (heapOf a tab)
+      long-accepted h = step-accepted t m c a tab z (own-first false (le-ltb (leftIn (Found s e) p) k h))
+
+-- the calls that have no rules of their own
+module _ (t m : ℕ) (a tab : List ℕ) (p : ℕ) {s e : ℕ} (f : located (heapView t m (heapOf a tab)) p ≡ Inside s e) where
+  abbrev u : View
+  u = heapView t m (heapOf a tab)
+
+  left-is : (l : ℕ) → l ≡ leftIn (Found s e) p → l ≡ leftFrom u p
+  left-is l q = q ∙ ap (λ (h : Referent). leftIn h p) (sym (located-inside u p f .1))
+
+  pub left-done : (l : ℕ) → Ready t m (Left p) a tab → l ≡ leftIn (Found s e) p → outcome (answer 0 l) a tab ≡ heapStep t m (Left p) (heapOf a tab)
   unfolding stateRules value stored entered
-  left-done l z q = ap (λ (x : ℕ). outcome (answer 0 x) a t) (left-is l q) ∙ step-accepted m (Left p) a t z (rw f)
+  left-done l z q =
+      ap (λ (x : ℕ). outcome (answer 0 x) a tab) (left-is l q) ∙ step-accepted t m (Left p) a tab z (home-first t m (Left p) a tab z p [] refl f)
 
-  module _ (v n l k : ℕ) (z : Ready m (Fill p v n) a t) (q : l ≡ leftIn (Found s e) p) (r : k ≡ min n l) where
-    pub fill-done : (b : List ℕ) → b ≡ over a (p - base) (replicate k v) → outcome (answer 0 k) b t ≡ heapStep m (Fill p v n) (heapOf a t)
+  module _ (v n l k : ℕ) (z : Ready t m (Fill p v n) a tab) (q : l ≡ leftIn (Found s e) p) (r : k ≡ min n l) where
+    pub fill-done : (b : List ℕ) → b ≡ over a (p - base) (replicate k v) → outcome (answer 0 k) b tab ≡ heapStep t m (Fill p v n) (heapOf a tab)
     unfolding stateRules value stored entered
-    fill-done b u =
-        ap (λ (x : List ℕ). outcome (answer 0 k) x t) u
-        ∙ ap (λ (x : ℕ). outcome (answer 0 x) (over a (p - base) (replicate x v)) t) (r ∙ ap (min n) (left-is l q))
-        ∙ step-accepted m (Fill p v n) a t z (rw f)
+    fill-done b x =
+        ap (λ (x : List ℕ). outcome (answer 0 k) x tab) x
+        ∙ ap (λ (x : ℕ). outcome (answer 0 x) (over a (p - base) (replicate x v)) tab) (r ∙ ap (min n) (left-is l q))
+        ∙ step-accepted t m (Fill p v n) a tab z (home-first t m (Fill p v n) a tab z p [] refl f)
 
-  -- with a second pointer y
-  module _ (y s2 e2 : ℕ) (g : referentOfPointer (heapView m (heapOf a t)) y ≡ Found s2 e2) where
-    pub copy-done : (n k : ℕ) (b : List ℕ) → Ready m (Copy p y n) a t → k ≡ min n (min (leftIn (Found s e) p) (leftIn (Found s2 e2) y))
-        → b ≡ copied a (p - base) a (y - base) k → outcome (answer 0 k) b t ≡ heapStep m (Copy p y n) (heapOf a t)
-    unfolding stateRules value stored entered
-    copy-done n k b z r u =
-        ap (λ (x : List ℕ). outcome (answer 0 k) x t) u
-        ∙ ap (λ (x : ℕ). outcome (answer 0 x) (copied a (p - base) a (y - base) x) t)
-        (r ∙ ap₂ (λ (i j : Referent). min n (min (leftIn i p) (leftIn j y))) (sym f) (sym g))
-        ∙ step-accepted m (Copy p y n) a t z (rw (f, g))
+-- a copy, from y to p
+module _ (t m p y n : ℕ) (a tab : List ℕ) (z : Ready t m (Copy p y n) a tab) where
+  abbrev x : View
+  x = heapView t m (heapOf a tab)
+
+  -- its number is the greater of the pointers'
+  both-first : first (stateRules (Copy p y n) x) ≡ max (first (homeRules x p)) (first (homeRules x y))
+  unfolding stateRules
+  both-first = go (dead x p) (dead x y)
+    where
+      go : (b d : Bool) → first (22 when (b || d) ∷ []) ≡ max (first (22 when b ∷ [])) (first (22 when d ∷ []))
+      go true true = refl
+      go true false = refl
+      go false true = refl
+      go false false = refl
+
+  numbers-first : first (stateRules (Copy p y n) x) ≡ max (numberIn (located x p)) (numberIn (located x y))
+  numbers-first = both-first ∙ ap₂ max (sym (located-number x p)) (sym (located-number x y))
+
+  -- so it is refused where either is
+  pub both-refused : (k : ℕ) → k ≡ max (numberIn (located x p)) (numberIn (located x y)) → (v i : ℕ) → located x v ≡ Refused i
+      → numberIn (located x v) ≤ max (numberIn (located x p)) (numberIn (located x y)) → outcome (answer k 0) a tab ≡ heapStep t m (Copy p y n) (heapOf a tab)
+  both-refused k q v i l u =
+      let (e, o) = located-refused x v i l in
+      step-refused t m (Copy p y n) a tab z k (q ∙ sym numbers-first) (λ r. o (omega (arith, ap numberIn l)))
+
+  pub copy-done : {s e s2 e2 : ℕ} → located x p ≡ Inside s e → located x y ≡ Inside s2 e2 → (k : ℕ) (b : List ℕ)
+      → k ≡ min n (min (leftIn (Found s e) p) (leftIn (Found s2 e2) y)) → b ≡ copied a (p - base) a (y - base) k
+      → outcome (answer 0 k) b tab ≡ heapStep t m (Copy p y n) (heapOf a tab)
+  unfolding stateRules value stored entered
+  copy-done f g k b r u =
+      ap (λ (i : List ℕ). outcome (answer 0 k) i tab) u
+      ∙ ap (λ (i : ℕ). outcome (answer 0 i) (copied a (p - base) a (y - base) i) tab)
+      (r ∙ ap₂ (λ (i j : Referent). min n (min (leftIn i p) (leftIn j y))) (sym (located-inside x p f .1)) (sym (located-inside x y g .1)))
+      ∙ step-accepted t m (Copy p y n) a tab z (numbers-first ∙ rw (f, g))

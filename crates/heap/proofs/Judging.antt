@@ -1,5 +1,5 @@
 -- Lists of refusals, and a call that has been judged up to its state.
-use Prim.Native.Nat.{ℕ, zero, suc, _-_, _*_, _/_, _^_, _≤_, _<_}
+use Prim.Native.Nat.{ℕ, zero, suc, _-_, _^_, _≤_, _<_}
 use mathlib.Core.Path.{_≡_, refl, sym, _∙_, ap, ap₂, subst}
 use mathlib.Core.Bool.{Bool, true, false, not, cond, _&&_}
 use mathlib.Core.List.{List, [], _∷_, _++_}
@@ -12,14 +12,14 @@ use Rattle.common.specs.Refusals.{Refusal, _when_, first}
 use Rattle.common.specs.Bytes.{over}
 use Rattle.common.proofs.Bytes.{over-whole}
 use Rattle.blocks.proofs.Booleans.{and-left, and-right, and-both, eqb-suc}
-use Rattle.blocks.proofs.Floors.{pow-split}
-use Rattle.blocks.proofs.Orders.{order-sound, order-power}
+use Rattle.blocks.proofs.Orders.{order-power}
 use Rattle.blocks.specs.Tables.{damagedBy}
-use Rattle.blocks.specs.Orders.{orderOf}
-use Rattle.heap.specs.Views.{View}
-use Rattle.heap.specs.Rules.{argumentRules, stateRules, rules}
+use Rattle.blocks.specs.Orders.{smallestOrder, largestOrder, isArenaOrder, orderOf}
+use Rattle.heap.specs.Views.{View, slotOrder}
+use Rattle.heap.specs.Rules.{argumentRules, stateRules, rules, addressRules}
 use Rattle.heap.specs.Effects.{value, stored, Outcome, settled}
-use Rattle.heap.specs.Heaps.{Heap, heapOf, heapView, viewOf, entered, heapStep, heapCall, heapFresh, freshHeap, bit, heapCheck, outcome}
+use Rattle.heap.specs.Heaps.{Heap, heapOf, wrongSizes, heapView, viewOf, entered, heapStep, heapCall, heapFresh, freshHeap, bit, checkStep, heapCheck, outcome}
+use Rattle.heap.specs.Changes.{changeOf}
 use Rattle.heap.specs.Judging.{heapOrder, beforeCall, Sound, Ready}
 use Rattle.heap.specs.declared.Answer.{Answer}
 use Rattle.heap.specs.declared.Call.{Call}
@@ -45,7 +45,7 @@ clear ((n when b) ∷ rs) h e k = go (clear rs (and-right (ltb 0 n) _ h)) b e (e
     go ih false x false = ih x k
 
 -- a list that refuses, before another
-first-stays : (xs ys : List Refusal) → (first xs ≡ 0 → ⊥) → first (xs ++ ys) ≡ first xs
+pub first-stays : (xs ys : List Refusal) → (first xs ≡ 0 → ⊥) → first (xs ++ ys) ≡ first xs
 first-stays [] ys n = absurd (n refl)
 first-stays ((k when b) ∷ xs) ys n = go b n (first-stays xs ys)
   where
@@ -66,6 +66,10 @@ first-append ((k when b) ∷ xs) ys q = go b (first-append xs ys (and-right (ltb
     go true ih = let l : 0 < k = ltb-true 0 k (and-left _ _ q) in rw (ne-eqb k 0 (λ z. omega arith))
     go false ih = ih
 
+-- a list that refuses nothing, before another
+pub first-goes-on : (xs ys : List Refusal) → positive xs ≡ true → first xs ≡ 0 → first (xs ++ ys) ≡ first ys
+first-goes-on xs ys q z = first-append xs ys q ∙ rw z
+
 arguments-positive : (m : ℕ) (c : Call) → positive (argumentRules m c) ≡ true
 unfolding argumentRules
 arguments-positive m (Get n) = refl
@@ -81,10 +85,11 @@ arguments-positive m (Fill p v n) = refl
 abbrev judging : Bool → ℕ → Bool → List Refusal → List Refusal
 judging b n d rs = 8 when b ∷ numbered n ∷ 20 when d ∷ rs
 
-pub rules-first : (m : ℕ) (c : Call) (w : View)
-    → first (rules m c w) ≡ first (judging (w .wrong-sizes) (first (argumentRules m c)) (w .damaged) (stateRules m c w))
+pub rules-first : (c : Call) (w : View)
+    → first (rules c w) ≡ first (judging (w .wrong-sizes) (first (argumentRules (w .order) c)) (w .damaged) (stateRules c w))
 unfolding rules
-rules-first m c w = ap (cond (w .wrong-sizes) 8) (first-append (argumentRules m c) (20 when w .damaged ∷ stateRules m c w) (arguments-positive m c))
+rules-first c w =
+    ap (cond (w .wrong-sizes) 8) (first-append (argumentRules (w .order) c) (20 when w .damaged ∷ stateRules c w) (arguments-positive (w .order) c))
 
 -- where none applies
 judging-clear : (b : Bool) (n : ℕ) (d : Bool) (rs : List Refusal) → first (judging b n d rs) ≡ 0 → (b ≡ false) × (n ≡ 0) × (d ≡ false) × (first rs ≡ 0)
@@ -99,185 +104,190 @@ judging-clear b n d rs z = go b (eqb n 0) refl d z
 abbrev pub answer : ℕ → ℕ → Answer
 answer n v = record { number = n; value = v }
 
-settled-refused : {S : Type 0} (k : ℕ) (old : S) (v : ℕ) (new : S) → (k ≡ 0 → ⊥) → record { answer = answer k 0; state = old } ≡ settled k old v new
+pub settled-refused : {S : Type 0} (k : ℕ) (old : S) (v : ℕ) (new : S) → (k ≡ 0 → ⊥) → record { answer = answer k 0; state = old } ≡ settled k old v new
 settled-refused zero old v new n = absurd (n refl)
 settled-refused (suc k) old v new n = refl
 
--- The lengths, by the order that the code computes.
-module _ (a t : List ℕ) where
+-- The lengths, by the order of the arena's: that of a heap in slots of 2 ^ t bytes, t at most the smallest order of an arena.
+module _ (t : ℕ) (a tab : List ℕ) where
   abbrev o : ℕ
   o = orderOf (length a)
-
-  abbrev fitting : Bool
-  fitting = leb 5 o && (leb o 16 && (eqb (length a) (2 ^ o) && eqb (length t) (2 ^ (o - 4))))
 
   pub record Sized (m : ℕ) : Type 0 where
     pub same : m ≡ o
     pub low : 5 ≤ m
     pub high : m ≤ 16
     pub size : length a ≡ 2 ^ m
-    pub slots : length t ≡ 2 ^ (m - 4)
+    pub slots : length tab ≡ 2 ^ (m - t)
 
-  pub fits-sized : fitting ≡ true → Sized o
-  fits-sized x =
-      let y = and-right (leb 5 o) _ x in
-      let z = and-right (leb o 16) _ y in
+  pub fits-sized : (m : ℕ) → wrongSizes t m (heapOf a tab) ≡ false → Sized m
+  fits-sized m n =
+      let x = not-false _ n in
+      let y = and-left (isArenaOrder m) _ x in
+      let z = and-right (isArenaOrder m) _ x in
+      let low = leb-true smallestOrder m (and-left _ _ y) in
+      let high = leb-true m largestOrder (and-right (leb smallestOrder m) _ y) in
+      let size = eqb-true _ _ (and-left _ _ z) in
       record {
-        same = refl;
-        low = leb-true 5 o (and-left _ _ x);
-        high = leb-true o 16 (and-left _ _ y);
-        size = eqb-true _ _ (and-left _ _ z);
-        slots = eqb-true _ _ (and-right (eqb (length a) (2 ^ o)) _ z);
+        same = sym (ap orderOf size ∙ order-power m low high);
+        low = low;
+        high = high;
+        size = size;
+        slots = eqb-true _ _ (and-right (eqb (length a) (2 ^ m)) _ z);
       }
 
-  -- the table has a slot for each 16 bytes
-  sixteenth : Sized o → length a / 16 ≡ length t
-  sixteenth s = let p : 2 ^ o ≡ 2 ^ (o - 4) * 2 ^ 4 = pow-split 4 o (omega (arith, s .low)) in omega (arith, s .size, s .slots)
-
-  pub order-wrong : heapOrder a t ≡ 0 → fitting ≡ false
-  unfolding heapOrder
-  order-wrong z = go fitting refl
-    where
-      go : (b : Bool) → fitting ≡ b → b ≡ false
-      go false e = refl
-      go true e =
-          let s = fits-sized e in
-          let q : o ≡ 0 = sym (ap (λ (b : Bool). cond b o 0) (eq-eqb _ _ (sixteenth s))) ∙ z in
-          absurd (omega (arith, s .low))
-
-  pub order-sized : (m : ℕ) → m ≡ heapOrder a t → (m ≡ 0 → ⊥) → Sized m
-  unfolding heapOrder
-  order-sized m e n = go (eqb (length a / 16) (length t)) refl e
-    where
-      go : (b : Bool) → eqb (length a / 16) (length t) ≡ b → m ≡ cond b o 0 → Sized m
-      go false x q = absurd (n q)
-      go true x q =
-          let s = order-sound (length a) (λ z. n (q ∙ z)) in
-          let p : 2 ^ o ≡ 2 ^ (o - 4) * 2 ^ 4 = pow-split 4 o (omega (arith, s .low)) in
-          let y : length a / 16 ≡ length t = eqb-true _ _ x in
-          subst Sized (sym q) (record { same = refl; low = s .low; high = omega (arith, s .high); size = s .size; slots = omega (arith, s .size) })
-
   -- a sound heap has these lengths, and no damage
-  pub sized-sound : {m : ℕ} → Sized m → damagedBy 4 m t ≡ false → Sound m a t
-  sized-sound s d = record { low = s .low; high = s .high; size = s .size; slots = s .slots; whole = d }
+  pub sized-sound : {m : ℕ} → 1 ≤ t → t ≤ 5 → Sized m → damagedBy t m tab ≡ false → Sound t m a tab
+  sized-sound l h s d =
+      record { slot-low = l; slot-high = omega (arith, s .low); low = s .low; high = s .high; size = s .size; slots = s .slots; whole = d }
 
-  pub sound-sized : {m : ℕ} → Sound m a t → Sized m
+  pub sound-sized : {m : ℕ} → Sound t m a tab → Sized m
   sound-sized {m} s =
       record { same = sym (ap orderOf (s .size) ∙ order-power m (s .low) (s .high)); low = s .low; high = s .high; size = s .size; slots = s .slots }
 
-  pub sizes-right : {m : ℕ} → Sized m → heapView m (heapOf a t) .wrong-sizes ≡ false
-  sizes-right {m} s = ap not (and-both (le-leb 5 m (s .low)) (and-both (le-leb m 16 (s .high)) (and-both (eq-eqb _ _ (s .size)) (eq-eqb _ _ (s .slots)))))
+  pub sizes-right : {m : ℕ} → Sized m → wrongSizes t m (heapOf a tab) ≡ false
+  sizes-right {m} s =
+      ap not (and-both (and-both (le-leb smallestOrder m (s .low)) (le-leb m largestOrder (s .high))) (and-both (eq-eqb _ _ (s .size)) (eq-eqb _ _ (s .slots))))
 
 -- a call that is refused by the number k
-pub refused-step : (m : ℕ) (c : Call) (a t : List ℕ) {k : ℕ} {r : Answer} → k ≡ first (rules m c (heapView m (heapOf a t))) → (k ≡ 0 → ⊥) → r ≡ answer k 0
-    → outcome r a t ≡ heapStep m c (heapOf a t)
+pub refused-step : (t m : ℕ) (c : Call) (a tab : List ℕ) {k : ℕ} {r : Answer} → k ≡ first (rules c (heapView t m (heapOf a tab))) → (k ≡ 0 → ⊥)
+    → r ≡ answer k 0 → outcome r a tab ≡ heapStep t m c (heapOf a tab)
 unfolding heapStep
-refused-step m c a t {k = k} q n e = rw (e, ← q) (settled-refused k (heapOf a t) _ _ n)
+refused-step t m c a tab {k = k} q n e = rw (e, ← q) (settled-refused k (heapOf a tab) _ _ n)
 
-module _ (m : ℕ) (c : Call) (a t : List ℕ) (z : Ready m c a t) where
+module _ (t m : ℕ) (c : Call) (a tab : List ℕ) (z : Ready t m c a tab) where
   abbrev w : View
-  w = heapView m (heapOf a t)
+  w = heapView t m (heapOf a tab)
 
   -- no argument is refused by the number k
   pub argument-clear : (k : ℕ) → condOf k (argumentRules m c) ≡ false
   argument-clear = clear (argumentRules m c) (arguments-positive m c) (z .arguments)
 
-  pub ready-first : first (rules m c w) ≡ first (stateRules m c w)
-  ready-first = rules-first m c w ∙ rw (sizes-right a t (sound-sized a t (z .sound)), z .arguments, z .sound .whole)
+  pub ready-first : first (rules c w) ≡ first (stateRules c w)
+  ready-first = rules-first c w ∙ rw (sizes-right t a tab (sound-sized t a tab (z .sound)), z .arguments, z .sound .whole)
 
-  pub step-refused : (k : ℕ) → k ≡ first (stateRules m c w) → (k ≡ 0 → ⊥) → outcome (answer k 0) a t ≡ heapStep m c (heapOf a t)
-  step-refused k q n = refused-step m c a t (q ∙ sym ready-first) n refl
+  pub step-refused : (k : ℕ) → k ≡ first (stateRules c w) → (k ≡ 0 → ⊥) → outcome (answer k 0) a tab ≡ heapStep t m c (heapOf a tab)
+  step-refused k q n = refused-step t m c a tab (q ∙ sym ready-first) n refl
 
-  pub step-accepted : first (stateRules m c w) ≡ 0 → outcome (answer 0 (value m c w a)) (stored m c w a) (entered m c w t) ≡ heapStep m c (heapOf a t)
+  pub step-accepted : first (stateRules c w) ≡ 0
+      → outcome (answer 0 (value c w a)) (stored c w a) (entered (changeOf c) w tab) ≡ heapStep t m c (heapOf a tab)
   unfolding heapStep
   step-accepted q = rw (ready-first, q)
 
--- a call that is not refused
-pub accepted-ready : (c : Call) (a t : List ℕ) → first (rules (orderOf (length a)) c (viewOf (heapOf a t))) ≡ 0
-    → Ready (orderOf (length a)) c a t × (first (stateRules (orderOf (length a)) c (viewOf (heapOf a t))) ≡ 0)
-accepted-ready c a t z =
-    let m : ℕ = orderOf (length a) in
-    let w : View = viewOf (heapOf a t) in
-    let (x, u, d, g) = judging-clear (w .wrong-sizes) (first (argumentRules m c)) (w .damaged) (stateRules m c w) (sym (rules-first m c w) ∙ z) in
-    (record { sound = sized-sound a t (fits-sized a t (not-false _ x)) d; arguments = u }, g)
-
 -- What the order m that the code computes says of the lengths.
-pub record Ordered (a t : List ℕ) (m : ℕ) : Type 0 where
-  pub wrong : m ≡ 0 → viewOf (heapOf a t) .wrong-sizes ≡ true
-  pub sized : (m ≡ 0 → ⊥) → Sized a t m
+pub record Ordered (t : ℕ) (a tab : List ℕ) (m : ℕ) : Type 0 where
+  pub wrong : m ≡ 0 → wrongSizes t (orderOf (length a)) (heapOf a tab) ≡ true
+  pub sized : (m ≡ 0 → ⊥) → Sized t a tab m
 
-pub ordered : {a t : List ℕ} {m : ℕ} → m ≡ heapOrder a t → Ordered a t m
-ordered {a = a} {t = t} {m = m} q = record { wrong = λ z. ap not (order-wrong a t (sym q ∙ z)); sized = order-sized a t m q }
+pub ordered : {t : ℕ} {a tab : List ℕ} {m : ℕ} → m ≡ heapOrder t a tab → Ordered t a tab m
+unfolding heapOrder
+ordered {t = t} {a = a} {tab = tab} {m = m} q = go (wrongSizes t (orderOf (length a)) (heapOf a tab)) refl q
+  where
+    go : (b : Bool) → wrongSizes t (orderOf (length a)) (heapOf a tab) ≡ b → m ≡ cond b 0 (orderOf (length a)) → Ordered t a tab m
+    go true e x = record { wrong = λ z. e; sized = λ n. absurd (n x) }
+    go false e x =
+        let s : Sized t a tab m = subst (Sized t a tab) (sym x) (fits-sized t a tab (orderOf (length a)) e) in
+        record { wrong = λ z. absurd (omega (arith, s .low)); sized = λ n. s }
 
 -- what `arguments` and `before_call` require
-pub order-top : {a t : List ℕ} {m : ℕ} → Ordered a t m → m ≤ 16
-order-top {m = m} o = elim (decLt 0 m) [ yes p ↦ o .sized (λ z. omega arith) .high | no p ↦ omega arith ]
+module _ {t : ℕ} {a tab : List ℕ} {m : ℕ} (o : Ordered t a tab m) where
+  pub order-top : m ≤ 16
+  order-top = elim (decLt 0 m) [ yes p ↦ o .sized (λ z. omega arith) .high | no p ↦ omega arith ]
 
-pub order-slots : {a t : List ℕ} {m : ℕ} → Ordered a t m → (m ≡ 0 → ⊥) → (4 ≤ m) × (m ≤ 16) × (length t ≡ 2 ^ (m - 4))
-order-slots o n = let s = o .sized n in (omega (arith, s .low), s .high, s .slots)
+  pub order-slots : 1 ≤ t → t ≤ 5 → (m ≡ 0 → ⊥) → (1 ≤ t) × (t ≤ m) × (m ≤ 16) × (length tab ≡ 2 ^ (m - t))
+  order-slots l h n = let s = o .sized n in (l, omega (arith, s .low), s .high, s .slots)
 
-order-sizes : {a t : List ℕ} {m : ℕ} → Ordered a t m → heapView m (heapOf a t) .wrong-sizes ≡ eqb m 0
+-- 8 by that order, and by the arena's
+order-sizes : {t : ℕ} {a tab : List ℕ} {m : ℕ} → Ordered t a tab m → wrongSizes t m (heapOf a tab) ≡ eqb m 0
 order-sizes {m = zero} o = refl
-order-sizes {a = a} {t = t} {m = suc m} o = sizes-right a t (o .sized (λ z. omega arith)) ∙ sym (eqb-suc m)
+order-sizes {t = t} {a = a} {tab = tab} {m = suc m} o = sizes-right t a tab (o .sized (λ z. omega arith)) ∙ sym (eqb-suc m)
 
-order-rules : {a t : List ℕ} {m : ℕ} (c : Call) → Ordered a t m
-    → first (rules m c (heapView m (heapOf a t))) ≡ first (rules (orderOf (length a)) c (viewOf (heapOf a t)))
+order-rules : {t : ℕ} {a tab : List ℕ} {m : ℕ} (c : Call) → Ordered t a tab m
+    → first (rules c (heapView t m (heapOf a tab))) ≡ first (rules c (heapView t (orderOf (length a)) (heapOf a tab)))
 unfolding rules
 order-rules {m = zero} c o = rw (o .wrong refl)
-order-rules {a = a} {t = t} {m = suc m} c o = ap (λ (k : ℕ). first (rules k c (heapView k (heapOf a t)))) (o .sized (λ z. omega arith) .same)
+order-rules {t = t} {a = a} {tab = tab} {m = suc m} c o =
+    ap (λ (k : ℕ). first (rules c (heapView t k (heapOf a tab)))) (o .sized (λ z. omega arith) .same)
+
+-- ---- the public calls
+
+-- a call that is not refused
+pub accepted-ready : (c : Call) (a tab : List ℕ) → first (rules c (viewOf (heapOf a tab))) ≡ 0
+    → Ready slotOrder (orderOf (length a)) c a tab × (first (stateRules c (viewOf (heapOf a tab))) ≡ 0)
+accepted-ready c a tab z =
+    let w : View = viewOf (heapOf a tab) in
+    let (x, u, d, g) = judging-clear (w .wrong-sizes) (first (argumentRules (w .order) c)) (w .damaged) (stateRules c w) (sym (rules-first c w) ∙ z) in
+    (record { sound = sized-sound slotOrder a tab (omega arith) (omega arith) (fits-sized slotOrder a tab (w .order) x) d; arguments = u }, g)
 
 -- A call that was judged: its refusal before it is carried out, or what it may rely on.
-pub record Judged (c : Call) (a t : List ℕ) (number order : ℕ) : Type 0 where
-  pub refusal : (number ≡ 0 → ⊥) → number ≡ first (rules (orderOf (length a)) c (viewOf (heapOf a t)))
-  pub ready : number ≡ 0 → Ready order c a t
+pub record Judged (c : Call) (a tab : List ℕ) (number order : ℕ) : Type 0 where
+  pub refusal : (number ≡ 0 → ⊥) → number ≡ first (rules c (viewOf (heapOf a tab)))
+  pub ready : number ≡ 0 → Ready slotOrder order c a tab
 
 -- by what `order_of`, `arguments` and `before_call` ensure
-pub judge : {c : Call} {a t : List ℕ} {m n k : ℕ} → Ordered a t m → n ≡ first (argumentRules m c) → k ≡ beforeCall m n t → Judged c a t k m
-judge {c = c} {a = a} {t = t} {m = m} {n = n} o x h =
-    let w = heapView m (heapOf a t) in
+pub judge : {c : Call} {a tab : List ℕ} {m n k : ℕ} → Ordered slotOrder a tab m → n ≡ first (argumentRules m c) → k ≡ beforeCall slotOrder m n tab
+    → Judged c a tab k m
+judge {c = c} {a = a} {tab = tab} {m = m} {n = n} o x h =
+    let w = heapView slotOrder m (heapOf a tab) in
     record {
       refusal = λ y.
-          h ∙ sym (first-stays (judging (eqb m 0) n (w .damaged) []) (stateRules m c w) (λ z. y (h ∙ z)))
-          ∙ ap₂ (λ (b : Bool) (l : ℕ). first (judging b l (w .damaged) (stateRules m c w))) (sym (order-sizes o)) x
-          ∙ sym (rules-first m c w) ∙ order-rules c o;
+          h ∙ sym (first-stays (judging (eqb m 0) n (w .damaged) []) (stateRules c w) (λ z. y (h ∙ z)))
+          ∙ ap₂ (λ (b : Bool) (l : ℕ). first (judging b l (w .damaged) (stateRules c w))) (sym (order-sizes o)) x
+          ∙ sym (rules-first c w) ∙ order-rules c o;
       ready = λ z.
           let (e, u, d, _) = judging-clear (eqb m 0) n (w .damaged) [] (sym h ∙ z) in
-          record { sound = sized-sound a t (o .sized (eqb-false m 0 e)) d; arguments = sym x ∙ u };
+          record { sound = sized-sound slotOrder a tab (omega arith) (omega arith) (o .sized (eqb-false m 0 e)) d; arguments = sym x ∙ u };
     }
 
-module _ {c : Call} {a t : List ℕ} {k m : ℕ} (j : Judged c a t k m) where
-  pub judged-refused : (k ≡ 0 → ⊥) → {r : Answer} → r ≡ answer k 0 → outcome r a t ≡ heapCall c (heapOf a t)
+module _ {c : Call} {a tab : List ℕ} {k m : ℕ} (j : Judged c a tab k m) where
+  pub judged-refused : (k ≡ 0 → ⊥) → {r : Answer} → r ≡ answer k 0 → outcome r a tab ≡ heapCall c (heapOf a tab)
   unfolding heapCall
-  judged-refused n e = refused-step (orderOf (length a)) c a t (j .refusal n) n e
+  judged-refused n e = refused-step slotOrder (orderOf (length a)) c a tab (j .refusal n) n e
 
-  pub judged-call : k ≡ 0 → {x : Outcome Heap} → x ≡ heapStep m c (heapOf a t) → x ≡ heapCall c (heapOf a t)
+  pub judged-order : k ≡ 0 → m ≡ orderOf (length a)
+  judged-order z = sound-sized slotOrder a tab (j .ready z .sound) .same
+
+  pub judged-call : k ≡ 0 → {x : Outcome Heap} → x ≡ heapStep slotOrder m c (heapOf a tab) → x ≡ heapCall c (heapOf a tab)
   unfolding heapCall
-  judged-call z e = e ∙ ap (λ (o : ℕ). heapStep o c (heapOf a t)) (sound-sized a t (j .ready z .sound) .same)
+  judged-call z e = e ∙ ap (λ (o : ℕ). heapStep slotOrder o c (heapOf a tab)) (judged-order z)
 
-pub check-refused : {p k m : ℕ} {a t : List ℕ} {r : Answer} (i : ℕ) → Judged (Left p) a t k m → (k ≡ 0 → ⊥) → r ≡ answer k 0 → r ≡ heapCheck p i (heapOf a t)
-unfolding heapCheck
-check-refused {p = p} {k = k} {a = a} {t = t} i j n e =
-    let h : Heap = heapOf a t in
-    let v : ℕ = bit (viewOf h .inside p i) in
-    e ∙ ap (λ (x : Outcome Heap). x .answer) (settled-refused k h v h n ∙ ap (λ (x : ℕ). settled x h v h) (j .refusal n))
+-- check and show are judged as left is
+pub address-left : (p : ℕ) (w : View) → addressRules w p ≡ rules (Left p) w
+unfolding addressRules rules argumentRules stateRules
+address-left p w = refl
+
+module _ {p k m : ℕ} {a tab : List ℕ} (i : ℕ) (j : Judged (Left p) a tab k m) where
+  pub check-refused : (k ≡ 0 → ⊥) → {r : Answer} → r ≡ answer k 0 → r ≡ heapCheck p i (heapOf a tab)
+  unfolding heapCheck checkStep
+  check-refused n e =
+      let h : Heap = heapOf a tab in
+      let v : ℕ = bit (viewOf h .inside p i) in
+      e ∙ ap (λ (x : Outcome Heap). x .answer)
+      (settled-refused k h v h n ∙ ap (λ (x : ℕ). settled x h v h) (j .refusal n ∙ ap first (sym (address-left p (viewOf h)))))
+
+  pub judged-check : k ≡ 0 → {r : Answer} → r ≡ checkStep slotOrder m p i (heapOf a tab) → r ≡ heapCheck p i (heapOf a tab)
+  unfolding heapCheck
+  judged-check z e = e ∙ ap (λ (o : ℕ). checkStep slotOrder o p i (heapOf a tab)) (judged-order j z)
 
 -- Fresh: on buffers whose lengths fit it leaves the fresh heap of their order.
-pub fresh-heap : (a t : List ℕ) → viewOf (heapOf a t) .wrong-sizes ≡ false
-    → heapFresh (heapOf a t) ≡ record { answer = answer 0 0; state = freshHeap (orderOf (length a)) }
+pub fresh-heap : (m : ℕ) (a tab : List ℕ) → wrongSizes slotOrder m (heapOf a tab) ≡ false
+    → heapFresh (heapOf a tab) ≡ record { answer = answer 0 0; state = freshHeap m }
 unfolding heapFresh
-fresh-heap a t z =
-    let s = fits-sized a t (not-false _ z) in
-    rw z (ap₂ (λ (n k : ℕ). outcome (answer 0 0) (replicate n 0) (replicate k 0)) (s .size) (s .slots))
+fresh-heap m a tab z =
+    let s = fits-sized slotOrder a tab m z in
+    let n : viewOf (heapOf a tab) .wrong-sizes ≡ false = rw (← s .same) z in
+    rw n (ap₂ (λ (n k : ℕ). outcome (answer 0 0) (replicate n 0) (replicate k 0)) (s .size) (s .slots))
 
-module _ {a t : List ℕ} {m : ℕ} (o : Ordered a t m) where
-  pub fresh-refused : m ≡ 0 → {r : Answer} → r ≡ answer 8 0 → outcome r a t ≡ heapFresh (heapOf a t)
+module _ {a tab : List ℕ} {m : ℕ} (o : Ordered slotOrder a tab m) where
+  pub fresh-refused : m ≡ 0 → {r : Answer} → r ≡ answer 8 0 → outcome r a tab ≡ heapFresh (heapOf a tab)
   unfolding heapFresh
   fresh-refused z e = rw (e, o .wrong z)
 
-  pub fresh-done : (m ≡ 0 → ⊥) → {r : Answer} {a′ t′ : List ℕ} → r ≡ answer 0 0
-      → a′ ≡ over a 0 (replicate (length a) 0) → t′ ≡ over t 0 (replicate (length t) 0) → outcome r a′ t′ ≡ heapFresh (heapOf a t)
+  pub order-fits : (m ≡ 0 → ⊥) → viewOf (heapOf a tab) .wrong-sizes ≡ false
+  order-fits n = let s = o .sized n in rw (← s .same) (sizes-right slotOrder a tab s)
+
+  pub fresh-done : (m ≡ 0 → ⊥) → {r : Answer} {a′ tab′ : List ℕ} → r ≡ answer 0 0
+      → a′ ≡ over a 0 (replicate (length a) 0) → tab′ ≡ over tab 0 (replicate (length tab) 0) → outcome r a′ tab′ ≡ heapFresh (heapOf a tab)
   unfolding heapFresh
   fresh-done n e x y =
-      let s = o .sized n in
-      let z : viewOf (heapOf a t) .wrong-sizes ≡ false = rw (← s .same) (sizes-right a t s) in
-      rw (z, e, x ∙ over-whole a _ (length-replicate (length a) 0), y ∙ over-whole t _ (length-replicate (length t) 0))
+      rw (order-fits n, e, x ∙ over-whole a _ (length-replicate (length a) 0), y ∙ over-whole tab _ (length-replicate (length tab) 0))

@@ -1,8 +1,12 @@
--- What the proofs of several functions use.
+-- What the proofs of several functions and of the crates above use.
 pub mod Edges
 pub mod Judging
+pub mod Lengths
 pub mod Arguments
+pub mod Homes
 pub mod Accesses
 pub mod Stepping
 pub mod Placing
 pub mod Showing
+pub mod AnswerBytes
+pub mod Changes

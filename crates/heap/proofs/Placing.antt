@@ -1,8 +1,9 @@
 -- The outcomes of get and give: a block put where the placing rule says, and a block taken away.
 use Prim.Native.Nat.{ℕ, _+_, _-_, _*_, _/_, _%_, _^_, _≤_}
-use mathlib.Core.Path.{_≡_, sym, _∙_, ap, subst}
-use mathlib.Core.Bool.{false, _||_}
+use mathlib.Core.Path.{_≡_, refl, sym, _∙_, ap, subst}
+use mathlib.Core.Bool.{Bool, true, false, not, cond, _||_}
 use mathlib.Core.List.{List, [], _∷_}
+use native.Mathlib.Nat.{add-mul, mul-le-mul-right}
 use native.Mathlib.Omega.{arith}
 use borrow.Author.Tests.{ltb-false, eq-eqb, ne-eqb}
 use lib.Dec.{ltb, eqb}
@@ -22,81 +23,97 @@ use Rattle.blocks.proofs.Booleans.{or-false-right}
 use Rattle.blocks.proofs.Floors.{pow-split}
 use Rattle.blocks.proofs.Orders.{Needed, needed-order}
 use Rattle.blocks.proofs.Places.{place-sound, range-inside}
-use Rattle.blocks.proofs.Slots.{slots-of}
-use Rattle.heap.specs.Views.{View, referentOfPointer, placeFor, noPlace, placeAddress}
-use Rattle.heap.specs.Rules.{argumentRules, stateRules}
+use Rattle.blocks.proofs.Slots.{slotOf, slot-start, slots-of}
+use Rattle.heap.specs.Views.{View, referentOfPointer, neededFor, placeFor, noPlace, placeAddress, startFor}
+use Rattle.heap.specs.Rules.{not-start, argumentRules, stateRules}
 use Rattle.heap.specs.Effects.{value, stored, cleared}
 use Rattle.heap.specs.Heaps.{heapOf, heapView, stamped, entered, heapStep, outcome}
-use Rattle.heap.specs.Judging.{Ready}
+use Rattle.heap.specs.Judging.{Ready, located}
 use Rattle.heap.specs.declared.Call.the-variants.{Get, Give}
+use Rattle.heap.specs.declared.refusals.Located.the-variants.{Inside}
 use Rattle.heap.proofs.Judging.{answer, argument-clear, step-refused, step-accepted}
-use Rattle.heap.proofs.Accesses.{Within}
+use Rattle.heap.proofs.Accesses.{Within, home-first}
+use Rattle.heap.proofs.Homes.{located-inside}
 
 -- Of a get that is ready: the order that it needs, and the place for it.
-module _ (m n : ℕ) (a t : List ℕ) (z : Ready m (Get n) a t) (e : ℕ) (q : e ≡ neededOrder 4 m n) where
+module _ (t m n : ℕ) (a tab : List ℕ) (z : Ready t m (Get n) a tab) (e : ℕ) (q : e ≡ neededOrder t m n) where
   abbrev v : View
-  v = heapView m (heapOf a t)
+  v = heapView t m (heapOf a tab)
 
   requested : eqb n 0 || ltb (2 ^ m) n ≡ false
   unfolding argumentRules
-  requested = argument-clear m (Get n) a t z 10
+  requested = argument-clear t m (Get n) a tab z 10
 
-  pub needed : Needed 4 m n e
+  pub needed : Needed t m n e
   needed =
-      subst (λ (k : ℕ). Needed 4 m n k) (sym q)
-      (needed-order 4 m n (omega (arith, z .sound .low)) (ltb-false (2 ^ m) n (or-false-right (eqb n 0) _ requested)))
+      subst (λ (k : ℕ). Needed t m n k) (sym q)
+      (needed-order t m n (z .sound .slot-high) (ltb-false (2 ^ m) n (or-false-right (eqb n 0) _ requested)))
 
-  pub get-none : placeIn (freeIn t) 4 0 m e ≡ Nothing → outcome (answer 21 0) a t ≡ heapStep m (Get n) (heapOf a t)
+  pub get-none : placeIn (freeIn tab) t 0 m e ≡ Nothing → outcome (answer 21 0) a tab ≡ heapStep t m (Get n) (heapOf a tab)
   unfolding stateRules
   get-none h =
-      step-refused m (Get n) a t z 21
-      (sym (ap (λ (x : Place). first (21 when noPlace x ∷ [])) (ap (placeIn (freeIn t) 4 0 m) (sym q) ∙ h))) (λ x. omega arith)
+      step-refused t m (Get n) a tab z 21
+      (sym (ap (λ (x : Place). first (21 when noPlace x ∷ [])) (ap (placeIn (freeIn tab) t 0 m) (sym q) ∙ h))) (λ x. omega arith)
 
   -- the place's slots and bytes
-  module _ (s k : ℕ) (h : placeIn (freeIn t) 4 0 m e ≡ At s k) where
-    pub get-slots : s + 2 ^ (e - 4) ≤ length t
+  module _ (s k : ℕ) (h : placeIn (freeIn tab) t 0 m e ≡ At s k) where
+    pub get-slots : s + 2 ^ (e - t) ≤ length tab
     get-slots =
-        let f = place-sound (freeIn t) 4 0 m e s k (omega (arith, needed .high)) h in
-        let r = range-inside 4 m k (f .number) (omega (arith, needed .low, f .low)) (f .high) (f .among) in
-        let l : e - 4 ≤ k - 4 = omega (arith, f .low) in
-        let p : 2 ^ (e - 4) ≤ 2 ^ (k - 4) = pow-mono l in
+        let f = place-sound (freeIn tab) t 0 m e s k (omega (arith, needed .high)) h in
+        let r = range-inside t m k (f .number) (omega (arith, needed .low, f .low)) (f .high) (f .among) in
+        let l : e - t ≤ k - t = omega (arith, f .low) in
+        let p : 2 ^ (e - t) ≤ 2 ^ (k - t) = pow-mono l in
         omega (arith, f .start, z .sound .slots)
 
-    pub get-bytes : s * 16 + 2 ^ e ≤ length a
+    pub get-bytes : s * 2 ^ t + 2 ^ e ≤ length a
     get-bytes =
-        let x : 2 ^ e ≡ 2 ^ (e - 4) * 2 ^ 4 = pow-split 4 e (needed .low) in
-        let y : 2 ^ m ≡ 2 ^ (m - 4) * 2 ^ 4 = pow-split 4 m (omega (arith, z .sound .low)) in
-        omega (arith, get-slots, z .sound .size, z .sound .slots)
+        let x : 2 ^ e ≡ 2 ^ (e - t) * 2 ^ t = pow-split t e (needed .low) in
+        let y : 2 ^ m ≡ 2 ^ (m - t) * 2 ^ t = pow-split t m (z .sound .slot-high) in
+        let l : s + 2 ^ (e - t) ≤ 2 ^ (m - t) = omega (arith, get-slots, z .sound .slots) in
+        omega (arith, mul-le-mul-right (2 ^ t) l, add-mul s (2 ^ (e - t)) (2 ^ t), z .sound .size)
 
-    pub get-small : length a ≤ 65536
+    pub get-small : length a ≤ 2 ^ 16
     get-small = let x : 2 ^ m ≤ 2 ^ 16 = pow-mono (z .sound .high) in omega (arith, z .sound .size)
 
-    placed : placeFor m n v ≡ At s k
-    placed = ap (placeIn (freeIn t) 4 0 m) (sym q) ∙ h
+    placed : placeFor n v ≡ At s k
+    placed = ap (placeIn (freeIn tab) t 0 m) (sym q) ∙ h
 
-    pub get-done : (x : ℕ) (a′ t′ : List ℕ) → x ≡ 65536 + s * 16 → a′ ≡ over a (s * 16) (replicate (2 ^ e) 0)
-        → t′ ≡ over t s (replicate (2 ^ (e - 4)) (e % 256)) → outcome (answer 0 x) a′ t′ ≡ heapStep m (Get n) (heapOf a t)
+    pub get-done : (x : ℕ) (a′ tab′ : List ℕ) → x ≡ base + s * 2 ^ t → a′ ≡ over a (s * 2 ^ t) (replicate (2 ^ e) 0)
+        → tab′ ≡ over tab s (replicate (2 ^ (e - t)) (e % 256)) → outcome (answer 0 x) a′ tab′ ≡ heapStep t m (Get n) (heapOf a tab)
     unfolding stateRules value stored entered
-    get-done x a′ t′ xe ae te =
-        let d : base + s * 16 - base ≡ s * 16 = omega arith in
-        let f : (base + s * 16 - base) / 16 ≡ s = omega arith in
+    get-done x a′ tab′ xe ae te =
+        let d : base + s * 2 ^ t - base ≡ s * 2 ^ t = omega arith in
+        let f : (base + s * 2 ^ t - base) / 2 ^ t ≡ s = slot-start t s in
         let o : e % 256 ≡ e = omega (arith, needed .high, z .sound .high) in
-        let am : a′ ≡ cleared a (placeAddress (placeFor m n v) - base) (neededOrder 4 m n) = ae ∙ rw (placed, d, ← q) in
-        let tm : t′ ≡ stamped t (placeAddress (placeFor m n v)) (neededOrder 4 m n) (neededOrder 4 m n) = te ∙ rw (placed, f, o, ← q) in
-        let xm : x ≡ placeAddress (placeFor m n v) = xe ∙ sym (ap placeAddress placed) in
-        rw (xm, am, tm) (step-accepted m (Get n) a t z (ap (λ (y : Place). first (21 when noPlace y ∷ [])) placed))
+        let am : a′ ≡ cleared a (startFor n v - base) (neededFor n v) = ae ∙ rw (placed, d, ← q) in
+        let tm : tab′ ≡ stamped t tab (startFor n v) (neededFor n v) (neededFor n v) = te ∙ rw (placed, f, o, ← q) in
+        let xm : x ≡ startFor n v = xe ∙ sym (ap (placeAddress t) placed) in
+        rw (xm, am, tm) (step-accepted t m (Get n) a tab z (ap (λ (y : Place). first (21 when noPlace y ∷ [])) placed))
 
 -- Of a give that is ready, the block that p refers to.
-module _ (m p : ℕ) (a t : List ℕ) (z : Ready m (Give p) a t) (s e : ℕ) (f : referentOfPointer (heapView m (heapOf a t)) p ≡ Found s e) where
-  pub give-inside : (s ≡ p → ⊥) → outcome (answer 23 0) a t ≡ heapStep m (Give p) (heapOf a t)
+module _ (t m p : ℕ) (a tab : List ℕ) (z : Ready t m (Give p) a tab) {s e : ℕ} (l : located (heapView t m (heapOf a tab)) p ≡ Inside s e) where
+  abbrev u : View
+  u = heapView t m (heapOf a tab)
+
+  abbrev f : referentOfPointer u p ≡ Found s e
+  f = located-inside u p l .1
+
+  own-first : (b : Bool) → eqb s p ≡ b → first (stateRules (Give p) u) ≡ cond (not b) 23 0
   unfolding stateRules
-  give-inside n = step-refused m (Give p) a t z 23 (sym (rw (f, ne-eqb s p n))) (λ x. omega arith)
+  own-first b h = home-first t m (Give p) a tab z p (23 when not-start (referentOfPointer u p) p ∷ []) refl l ∙ rw (f, h)
 
-  pub give-done : s ≡ p → (t′ : List ℕ) → t′ ≡ over t ((p - 65536) / 16) (replicate (2 ^ (e - 4)) 0) → outcome (answer 0 0) a t′ ≡ heapStep m (Give p) (heapOf a t)
-  unfolding stateRules value stored entered
-  give-done q t′ te =
-      let tm : t′ ≡ stamped t p (orderIn (referentOfPointer (heapView m (heapOf a t)) p)) 0 = te ∙ sym (ap (λ (r : Referent). stamped t p (orderIn r) 0) f) in
-      rw tm (step-accepted m (Give p) a t z (rw (f, eq-eqb s p q)))
+  pub give-inside : (s ≡ p → ⊥) → outcome (answer 23 0) a tab ≡ heapStep t m (Give p) (heapOf a tab)
+  give-inside n = step-refused t m (Give p) a tab z 23 (sym (own-first false (ne-eqb s p n))) (λ x. omega arith)
 
-  pub give-slots : Within m s e p → s ≡ p → (p - 65536) / 16 + 2 ^ (e - 4) ≤ length t
-  give-slots w q = let b = slots-of 4 m (record { start = s; order = e }) (w .aligned) in omega (arith, b .start, b .within, z .sound .slots)
+  pub give-done : s ≡ p → (tab′ : List ℕ) → tab′ ≡ over tab ((p - base) / 2 ^ t) (replicate (2 ^ (e - t)) 0)
+      → outcome (answer 0 0) a tab′ ≡ heapStep t m (Give p) (heapOf a tab)
+  unfolding value stored entered
+  give-done q tab′ te =
+      let tm : tab′ ≡ stamped t tab p (orderIn (referentOfPointer u p)) 0 = te ∙ sym (ap (λ (r : Referent). stamped t tab p (orderIn r) 0) f) in
+      rw tm (step-accepted t m (Give p) a tab z (own-first true (eq-eqb s p q)))
+
+  pub give-slots : Within t m s e p → s ≡ p → (p - base) / 2 ^ t + 2 ^ (e - t) ≤ length tab
+  give-slots w q =
+      let b = slots-of t m (record { start = s; order = e }) (w .aligned) in
+      let i : slotOf t p ≡ b .first = ap (slotOf t) (sym q ∙ b .start) ∙ slot-start t (b .first) in
+      omega (arith, b .within, z .sound .slots)

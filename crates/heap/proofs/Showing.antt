@@ -12,14 +12,14 @@ use Rattle.blocks.specs.Blocks.{base, missing, leftIn}
 use Rattle.blocks.specs.Orders.{orderOf}
 use Rattle.blocks.specs.declared.Referent.{Referent}
 use Rattle.blocks.specs.declared.Referent.the-variants.{Missing, Found}
-use Rattle.heap.specs.Views.{referentOfPointer}
-use Rattle.heap.specs.Rules.{argumentRules, stateRules}
-use Rattle.heap.specs.Effects.{value, leftFrom, settled}
+use Rattle.heap.specs.Views.{slotOrder, referentOfPointer, leftFrom}
+use Rattle.heap.specs.Rules.{argumentRules, stateRules, rules}
+use Rattle.heap.specs.Effects.{value, settled}
 use Rattle.heap.specs.Heaps.{Heap, heapOf, viewOf, heapStep, heapCall, pointerNumber, shown, shownByLeft, shownFrom, outcome}
 use Rattle.heap.specs.Judging.{Ready}
 use Rattle.heap.specs.declared.Answer.{Answer}
 use Rattle.heap.specs.declared.Call.the-variants.{Left}
-use Rattle.heap.proofs.Judging.{clear, argument-clear, accepted-ready}
+use Rattle.heap.proofs.Judging.{clear, argument-clear, accepted-ready, address-left}
 use Rattle.heap.proofs.Accesses.{plain-within}
 
 settled-number : {S : Type 0} (k v : ℕ) (old new : S) → settled k old v new .answer .number ≡ k
@@ -34,11 +34,11 @@ module _ (p : ℕ) (h : Heap) where
   -- show's number is left's
   pub left-number : heapCall (Left p) h .answer .number ≡ pointerNumber h p
   unfolding heapCall heapStep
-  left-number = settled-number (pointerNumber h p) _ _ _
+  left-number = settled-number (first (rules (Left p) (viewOf h))) _ _ _ ∙ ap first (sym (address-left p (viewOf h)))
 
   left-value : pointerNumber h p ≡ 0 → heapCall (Left p) h .answer .value ≡ leftFrom (viewOf h) p
   unfolding heapCall heapStep value
-  left-value z = settled-value (pointerNumber h p) _ _ _ z
+  left-value z = settled-value (first (rules (Left p) (viewOf h))) _ _ _ (ap first (sym (address-left p (viewOf h))) ∙ z)
 
   -- and its part has as many bytes as left gives
   pub shown-by-left : shown p h ≡ shownByLeft p h
@@ -51,9 +51,9 @@ module _ (p : ℕ) (h : Heap) where
       go true e = ap (λ (n : ℕ). take n (drop (p - base) (h .arena))) (sym (left-value (eqb-true _ _ e)))
       go false e = refl
 
-module _ (p : ℕ) (a t : List ℕ) (r : Answer) (e : outcome r a t ≡ heapCall (Left p) (heapOf a t)) where
+module _ (p : ℕ) (a tab : List ℕ) (r : Answer) (e : outcome r a tab ≡ heapCall (Left p) (heapOf a tab)) where
   abbrev h : Heap
-  h = heapOf a t
+  h = heapOf a tab
 
   number-left : r .number ≡ pointerNumber h p
   number-left = ap (λ x. x .answer .number) e ∙ left-number p h
@@ -64,15 +64,15 @@ module _ (p : ℕ) (a t : List ℕ) (r : Answer) (e : outcome r a t ≡ heapCall
 
     pub shown-inside : (base ≤ p) × (p - base + r .value ≤ length a)
     unfolding argumentRules stateRules
-    shown-inside = go (referentOfPointer (viewOf h) p) refl (clear (stateRules (orderOf (length a)) (Left p) (viewOf h)) refl (y .1) 22)
+    shown-inside = go (referentOfPointer (viewOf h) p) refl (clear (stateRules (Left p) (viewOf h)) refl (y .1) 22)
       where
-        y : Ready (orderOf (length a)) (Left p) a t × (first (stateRules (orderOf (length a)) (Left p) (viewOf h)) ≡ 0)
-        y = accepted-ready (Left p) a t (sym number-left ∙ z)
+        y : Ready slotOrder (orderOf (length a)) (Left p) a tab × (first (stateRules (Left p) (viewOf h)) ≡ 0)
+        y = accepted-ready (Left p) a tab (ap first (sym (address-left p (viewOf h))) ∙ sym number-left ∙ z)
 
         go : (f : Referent) → referentOfPointer (viewOf h) p ≡ f → missing f ≡ false → (base ≤ p) × (p - base + r .value ≤ length a)
         go Missing f n = absurd (false≢true (sym n))
         go (Found s k) f n =
-            let w = plain-within (orderOf (length a)) a t (y .0 .sound) p s k (argument-clear (orderOf (length a)) (Left p) a t (y .0) 13) f in
+            let w = plain-within slotOrder (orderOf (length a)) a tab (y .0 .sound) p s k (argument-clear slotOrder (orderOf (length a)) (Left p) a tab (y .0) 13) f in
             let l : r .value ≡ s + 2 ^ k - p = value-left ∙ ap (λ (x : Referent). leftIn x p) f in
             (omega (arith, w .above, w .low), omega (arith, w .above, w .low, w .high, w .inside, y .0 .sound .size))
 

@@ -7,17 +7,12 @@ use lib.IntN.{natAbs}
 use lib.ListN.{replicate}
 use Rattle.common.specs.Refusals.{Refusal, first}
 use Rattle.common.specs.Bytes.{bigEndian, bytesOf, over, copied}
-use Rattle.blocks.specs.Blocks.{base, leftIn}
+use Rattle.blocks.specs.Blocks.{base}
 use Rattle.blocks.specs.Pointers.{markBit, address, exactSum}
-use Rattle.blocks.specs.Orders.{neededOrder}
-use Rattle.heap.specs.Views.{View, slotOrder, referentOfPointer, placeFor, placeAddress}
+use Rattle.heap.specs.Views.{View, leftFrom, neededFor, startFor}
 use Rattle.heap.specs.declared.Answer.{Answer}
 use Rattle.heap.specs.declared.Call.{Call}
 use Rattle.heap.specs.declared.Call.the-variants.{Get, Give, Step, Read, Write, Left, Copy, Fill}
-
--- bytes from p to its referent's end
-abbrev pub leftFrom : View → ℕ → ℕ
-leftFrom w p = leftIn (referentOfPointer w p) p
 
 -- how many bytes a copy and a fill store
 abbrev pub copyCount : View → ℕ → ℕ → ℕ → ℕ
@@ -30,25 +25,25 @@ fillCount w p n = min n (leftFrom w p)
 abbrev pub cleared : List ℕ → ℕ → ℕ → List ℕ
 cleared b at e = over b at (replicate (2 ^ e) 0)
 
-unfoldable pub value : ℕ → Call → View → List ℕ → ℕ
-value m (Get n) w b = placeAddress (placeFor m n w)
-value m (Give p) w b = 0
-value m (Step p i) w b = let r = natAbs (exactSum (address p) i) in cond (w .inside p i) r (markBit + r)
-value m (Read p k) w b = bigEndian b (p - base) k
-value m (Write p k v) w b = 0
-value m (Left p) w b = leftFrom w p
-value m (Copy p q n) w b = copyCount w p q n
-value m (Fill p v n) w b = fillCount w p n
+unfoldable pub value : Call → View → List ℕ → ℕ
+value (Get n) w b = startFor n w
+value (Give p) w b = 0
+value (Step p i) w b = let r = natAbs (exactSum (address p) i) in cond (w .inside p i) r (markBit + r)
+value (Read p k) w b = bigEndian b (p - base) k
+value (Write p k v) w b = 0
+value (Left p) w b = leftFrom w p
+value (Copy p q n) w b = copyCount w p q n
+value (Fill p v n) w b = fillCount w p n
 
-unfoldable pub stored : ℕ → Call → View → List ℕ → List ℕ
-stored m (Get n) w b = cleared b (placeAddress (placeFor m n w) - base) (neededOrder slotOrder m n)
-stored m (Give p) w b = b
-stored m (Step p i) w b = b
-stored m (Read p k) w b = b
-stored m (Write p k v) w b = over b (p - base) (bytesOf k v)
-stored m (Left p) w b = b
-stored m (Copy p q n) w b = copied b (p - base) b (q - base) (copyCount w p q n)
-stored m (Fill p v n) w b = over b (p - base) (replicate (fillCount w p n) v)
+unfoldable pub stored : Call → View → List ℕ → List ℕ
+stored (Get n) w b = cleared b (startFor n w - base) (neededFor n w)
+stored (Give p) w b = b
+stored (Step p i) w b = b
+stored (Read p k) w b = b
+stored (Write p k v) w b = over b (p - base) (bytesOf k v)
+stored (Left p) w b = b
+stored (Copy p q n) w b = copied b (p - base) b (q - base) (copyCount w p q n)
+stored (Fill p v n) w b = over b (p - base) (replicate (fillCount w p n) v)
 
 -- What a call leaves: its answer and the state.
 pub record Outcome (S : Type 0) : Type 0 where

@@ -1,5 +1,6 @@
 pub mod Views
 pub mod Rules
+pub mod Changes
 pub mod Effects
 pub mod Heaps
 pub mod Judging

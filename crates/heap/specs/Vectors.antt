@@ -11,9 +11,9 @@ use Rattle.blocks.specs.Tables.{any, torn, bad, damagedBy, referentIn}
 use Rattle.blocks.specs.Pointers.{sought, signed, checkBits, within, inReach}
 use Rattle.blocks.specs.Orders.{orderOf, neededOrder}
 use Rattle.blocks.specs.Placing.{allFree, rangeStart, freeRange, maximal, lowest, atOrder, fromOrder, placeIn}
-use Rattle.heap.specs.Rules.{argumentRules, stateRules, rules}
+use Rattle.heap.specs.Rules.{argumentRules, stateRules, rules, addressRules}
 use Rattle.heap.specs.Effects.{value, stored}
-use Rattle.heap.specs.Heaps.{Heap, heapOf, insideByCheck, entered, heapStep, heapCall, heapFresh, freshHeap, heapCheck, pointerNumber, shown}
+use Rattle.heap.specs.Heaps.{Heap, heapOf, insideByCheck, entered, heapStep, heapCall, heapFresh, freshHeap, checkStep, heapCheck, pointerNumber, shown}
 use Rattle.heap.specs.declared.Answer.{Answer}
 use Rattle.heap.specs.declared.Call.{Call}
 use Rattle.heap.specs.declared.Call.the-variants.{Get, Give, Step, Read, Write, Left, Copy, Fill}
@@ -39,7 +39,7 @@ is x n v = eqb (x .number) n && eqb (x .value) v
 -- every line is as it should be
 holdAt : List Line → Heap → Bool
 unfolding bigEndian bytesOf over copied floor any torn bad damagedBy referentIn sought signed checkBits within inReach orderOf neededOrder allFree rangeStart
-    freeRange maximal lowest atOrder fromOrder placeIn argumentRules stateRules rules value stored insideByCheck entered heapStep heapCall heapFresh heapCheck
+    freeRange maximal lowest atOrder fromOrder placeIn argumentRules stateRules rules addressRules value stored insideByCheck entered heapStep heapCall heapFresh checkStep heapCheck
     shown same is
 holdAt [] h = true
 holdAt (answers c n v ∷ ls) h = is (heapCall c h .answer) n v && holdAt ls (heapCall c h .state)

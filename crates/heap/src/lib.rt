@@ -1,5 +1,6 @@
 // The heap: fresh, the eight calls, check and show, on an arena and a table that the caller lends. Each call judges its input, and then
 // calls its inner function in `unchecked`.
+use blocks::BASE;
 ghost use mathlib.Core.Path.{_≡_};
 ghost use Prim.Native.Nat.{_+_};
 ghost use Rattle.heap.specs.Heaps.{heapOf, outcome, heapCall, heapFresh, heapCheck, shown, shownByLeft, shownFrom};
@@ -8,7 +9,11 @@ pub mod answers;
 pub mod operations;
 mod refusals;
 pub mod registers;
+pub mod sizes;
 pub mod unchecked;
+
+// The order of a slot in every public call: a slot has 16 bytes.
+pub const SLOT_ORDER: u32 = 4;
 
 // What a call answers: the number of its refusal, 0 for none, and its value.
 #[repr(C)]
@@ -33,7 +38,7 @@ pub enum Call {
 pub fn fresh(arena: &mut [u8], table: &mut [u8]) -> Answer
     ensures { λ r. ⌜ outcome r (now (arena .exit)) (now (table .exit)) ≡ heapFresh (heapOf (now (arena .entry)) (now (table .entry))) ⌝ }
 {
-    if refusals::order_of(arena, table) == 0 {
+    if sizes::order_of(arena, table, SLOT_ORDER) == 0 {
         return answers::refused(8);
     }
     let n = arena.len();
@@ -47,96 +52,121 @@ pub fn fresh(arena: &mut [u8], table: &mut [u8]) -> Answer
 pub fn get(arena: &mut [u8], table: &mut [u8], n: u32) -> Answer
     ensures { λ r. ⌜ outcome r (now (arena .exit)) (now (table .exit)) ≡ heapCall (Call.Get n) (heapOf (now (arena .entry)) (now (table .entry))) ⌝ }
 {
-    let m = refusals::order_of(arena, table);
-    let number = refusals::before_call(table, m, refusals::arguments(m, Call::Get(n)));
+    let m = sizes::order_of(arena, table, SLOT_ORDER);
+    let number = refusals::before_call(table, SLOT_ORDER, m, refusals::arguments(m, Call::Get(n)));
     if number != 0 {
         return answers::refused(number);
     }
-    unchecked::get(arena, table, m, n)
+    unchecked::get(arena, table, SLOT_ORDER, m, n)
 }
 
 // Gives the block that starts at p back.
 pub fn give(arena: &[u8], table: &mut [u8], p: u32) -> Answer
     ensures { λ r. ⌜ outcome r (now (arena .entry)) (now (table .exit)) ≡ heapCall (Call.Give p) (heapOf (now (arena .entry)) (now (table .entry))) ⌝ }
 {
-    let m = refusals::order_of(arena, table);
-    let number = refusals::before_call(table, m, refusals::arguments(m, Call::Give(p)));
+    let m = sizes::order_of(arena, table, SLOT_ORDER);
+    let number = refusals::before_call(table, SLOT_ORDER, m, refusals::arguments(m, Call::Give(p)));
     if number != 0 {
         return answers::refused(number);
     }
-    unchecked::give(arena, table, m, p)
+    unchecked::give(arena, table, SLOT_ORDER, m, p)
 }
 
 // The pointer i bytes on from p, i a signed number in two's complement: plain inside p's referent, marked in its reach.
 pub fn step(arena: &[u8], table: &[u8], p: u32, i: u32) -> Answer
     ensures { λ r. ⌜ outcome r (now (arena .entry)) (now (table .entry)) ≡ heapCall (Call.Step p i) (heapOf (now (arena .entry)) (now (table .entry))) ⌝ }
 {
-    let m = refusals::order_of(arena, table);
-    let number = refusals::before_call(table, m, refusals::arguments(m, Call::Step(p, i)));
+    let m = sizes::order_of(arena, table, SLOT_ORDER);
+    let number = refusals::before_call(
+        table,
+        SLOT_ORDER,
+        m,
+        refusals::arguments(m, Call::Step(p, i)),
+    );
     if number != 0 {
         return answers::refused(number);
     }
-    unchecked::step(arena, table, m, p, i)
+    unchecked::step(arena, table, SLOT_ORDER, m, p, i)
 }
 
 // The w bytes at p as an unsigned big-endian number.
 pub fn read(arena: &[u8], table: &[u8], p: u32, w: u8) -> Answer
     ensures { λ r. ⌜ outcome r (now (arena .entry)) (now (table .entry)) ≡ heapCall (Call.Read p w) (heapOf (now (arena .entry)) (now (table .entry))) ⌝ }
 {
-    let m = refusals::order_of(arena, table);
-    let number = refusals::before_call(table, m, refusals::arguments(m, Call::Read(p, w)));
+    let m = sizes::order_of(arena, table, SLOT_ORDER);
+    let number = refusals::before_call(
+        table,
+        SLOT_ORDER,
+        m,
+        refusals::arguments(m, Call::Read(p, w)),
+    );
     if number != 0 {
         return answers::refused(number);
     }
-    unchecked::read(arena, table, m, p, w)
+    unchecked::read(arena, table, SLOT_ORDER, m, p, w)
 }
 
 // Stores v at p in w bytes, big-endian.
 pub fn write(arena: &mut [u8], table: &[u8], p: u32, w: u8, v: u32) -> Answer
     ensures { λ r. ⌜ outcome r (now (arena .exit)) (now (table .entry)) ≡ heapCall (Call.Write p w v) (heapOf (now (arena .entry)) (now (table .entry))) ⌝ }
 {
-    let m = refusals::order_of(arena, table);
-    let number = refusals::before_call(table, m, refusals::arguments(m, Call::Write(p, w, v)));
+    let m = sizes::order_of(arena, table, SLOT_ORDER);
+    let number = refusals::before_call(
+        table,
+        SLOT_ORDER,
+        m,
+        refusals::arguments(m, Call::Write(p, w, v)),
+    );
     if number != 0 {
         return answers::refused(number);
     }
-    unchecked::write(arena, table, m, p, w, v)
+    unchecked::write(arena, table, SLOT_ORDER, m, p, w, v)
 }
 
 // Bytes from p to its referent's end, both counted.
 pub fn left(arena: &[u8], table: &[u8], p: u32) -> Answer
     ensures { λ r. ⌜ outcome r (now (arena .entry)) (now (table .entry)) ≡ heapCall (Call.Left p) (heapOf (now (arena .entry)) (now (table .entry))) ⌝ }
 {
-    let m = refusals::order_of(arena, table);
-    let number = refusals::before_call(table, m, refusals::arguments(m, Call::Left(p)));
+    let m = sizes::order_of(arena, table, SLOT_ORDER);
+    let number = refusals::before_call(table, SLOT_ORDER, m, refusals::arguments(m, Call::Left(p)));
     if number != 0 {
         return answers::refused(number);
     }
-    unchecked::left(arena, table, m, p)
+    unchecked::left(arena, table, SLOT_ORDER, m, p)
 }
 
 // Copies up to n bytes from q to p, as many as both referents hold: what stood at q before the call, whichever way the two ranges overlap.
 pub fn copy(arena: &mut [u8], table: &[u8], p: u32, q: u32, n: u32) -> Answer
     ensures { λ r. ⌜ outcome r (now (arena .exit)) (now (table .entry)) ≡ heapCall (Call.Copy p q n) (heapOf (now (arena .entry)) (now (table .entry))) ⌝ }
 {
-    let m = refusals::order_of(arena, table);
-    let number = refusals::before_call(table, m, refusals::arguments(m, Call::Copy(p, q, n)));
+    let m = sizes::order_of(arena, table, SLOT_ORDER);
+    let number = refusals::before_call(
+        table,
+        SLOT_ORDER,
+        m,
+        refusals::arguments(m, Call::Copy(p, q, n)),
+    );
     if number != 0 {
         return answers::refused(number);
     }
-    unchecked::copy(arena, table, m, p, q, n)
+    unchecked::copy(arena, table, SLOT_ORDER, m, p, q, n)
 }
 
 // Stores v in up to n bytes from p on, as many as its referent holds.
 pub fn fill(arena: &mut [u8], table: &[u8], p: u32, v: u8, n: u32) -> Answer
     ensures { λ r. ⌜ outcome r (now (arena .exit)) (now (table .entry)) ≡ heapCall (Call.Fill p v n) (heapOf (now (arena .entry)) (now (table .entry))) ⌝ }
 {
-    let m = refusals::order_of(arena, table);
-    let number = refusals::before_call(table, m, refusals::arguments(m, Call::Fill(p, v, n)));
+    let m = sizes::order_of(arena, table, SLOT_ORDER);
+    let number = refusals::before_call(
+        table,
+        SLOT_ORDER,
+        m,
+        refusals::arguments(m, Call::Fill(p, v, n)),
+    );
     if number != 0 {
         return answers::refused(number);
     }
-    unchecked::fill(arena, table, m, p, v, n)
+    unchecked::fill(arena, table, SLOT_ORDER, m, p, v, n)
 }
 
 // The check of the plain address p and the step i: 1 where the sum stays in p's referent, else 0. It is in no list of calls and judges by its own short
@@ -144,17 +174,17 @@ pub fn fill(arena: &mut [u8], table: &[u8], p: u32, v: u8, n: u32) -> Answer
 pub fn check(arena: &[u8], table: &[u8], p: u32, i: u32) -> Answer
     ensures { λ r. ⌜ r ≡ heapCheck p i (heapOf (now (arena .entry)) (now (table .entry))) ⌝ }
 {
-    let m = refusals::order_of(arena, table);
+    let m = sizes::order_of(arena, table, SLOT_ORDER);
     if m == 0 {
         return answers::refused(8);
     }
     if blocks::is_marked(p) {
         return answers::refused(13);
     }
-    if blocks::damaged(table, m) {
+    if blocks::damaged(table, SLOT_ORDER, m) {
         return answers::refused(20);
     }
-    unchecked::check(arena, table, m, p, i)
+    unchecked::check(arena, table, SLOT_ORDER, m, p, i)
 }
 
 // The part of the arena from p to its referent's end, a part and no copy; empty if refused. Its number is the one that left gives.
@@ -167,7 +197,7 @@ pub fn show<'a>(arena: &'a [u8], table: &[u8], p: u32) -> &'a [u8]
     if answer.number != 0 {
         return &arena[0..0];
     }
-    let at = (p - 65536) as usize;
+    let at = (p - BASE) as usize;
     let end = at + answer.value as usize;
     &arena[at..end]
 }

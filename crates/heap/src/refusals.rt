@@ -1,5 +1,6 @@
 // What a call's input and the table's state decide before the call is carried out.
 use crate::Call;
+use blocks::Referent;
 ghost use mathlib.Core.Path.{_≡_};
 ghost use Prim.Native.Nat.{_-_, _^_, _≤_};
 ghost use mathlib.Core.Bool.{false};
@@ -7,19 +8,10 @@ ghost use mathlib.Core.List.{[], _∷_};
 ghost use lib.Dec.{leb};
 ghost use lib.ListN.{length};
 ghost use Rattle.common.specs.Refusals.{_when_, first};
-ghost use Rattle.blocks.specs.Pointers.{marked};
-ghost use Rattle.heap.specs.Rules.{badWidth, argumentRules};
-ghost use Rattle.heap.specs.Judging.{heapOrder, beforeCall};
-
-// The arena's order, or 0 where the lengths don't fit each other or are none of a heap.
-pub fn order_of(arena: &[u8], table: &[u8]) -> u32
-    ensures { λ r. ⌜ r ≡ heapOrder (now (arena .entry)) (now (table .entry)) ⌝ }
-{
-    if arena.len() / 16 != table.len() {
-        return 0;
-    }
-    blocks::order_of(arena.len())
-}
+ghost use Rattle.blocks.specs.Tables.{damagedBy};
+ghost use Rattle.heap.specs.Rules.{badWidth, plainRules, argumentRules};
+ghost use Rattle.heap.specs.Heaps.{heapOf, heapView};
+ghost use Rattle.heap.specs.Judging.{beforeCall, located, numberIn};
 
 fn bad_width(w: u8) -> bool
     ensures { λ b. ⌜ b ≡ badWidth w ⌝ }
@@ -33,21 +25,26 @@ fn bad_width(w: u8) -> bool
     w != 4
 }
 
+// How many numbers one byte and two bytes have.
+const ONE_BYTE: u32 = 256;
+
+const TWO_BYTES: u32 = 65536;
+
 // Whether v needs more than w bytes.
 fn too_wide(v: u32, w: u8) -> bool
     requires { ⌜ badWidth w ≡ false ⌝ }
     ensures { λ b. ⌜ b ≡ leb (256 ^ w) v ⌝ }
 {
     match w {
-        1 => 256 <= v,
-        2 => 65536 <= v,
+        1 => ONE_BYTE <= v,
+        2 => TWO_BYTES <= v,
         _ => false,
     }
 }
 
 // The refusal of a read's or a write's arguments.
 fn access(p: u32, w: u8, v: u32) -> u32
-    ensures { λ r. ⌜ r ≡ first (11 when badWidth w ∷ 12 when leb (256 ^ w) v ∷ 13 when marked p ∷ []) ⌝ }
+    ensures { λ r. ⌜ r ≡ first (11 when badWidth w ∷ 12 when leb (256 ^ w) v ∷ plainRules p) ⌝ }
 {
     if bad_width(w) {
         return 11;
@@ -59,7 +56,7 @@ fn access(p: u32, w: u8, v: u32) -> u32
 }
 
 fn plain(p: u32) -> u32
-    ensures { λ r. ⌜ r ≡ first (13 when marked p ∷ []) ⌝ }
+    ensures { λ r. ⌜ r ≡ first (plainRules p) ⌝ }
 {
     if blocks::is_marked(p) { 13 } else { 0 }
 }
@@ -96,9 +93,9 @@ pub fn arguments(m: u32, c: Call) -> u32
 
 // The refusal of a call before it is carried out, 0 for none: 8 where the heap has no order m, else the arguments' refusal n, else 20 where
 // the table is damaged.
-pub fn before_call(table: &[u8], m: u32, n: u32) -> u32
-    requires { ⌜ ((m ≡ 0 → ⊥) → (4 ≤ m) × (m ≤ 16) × (length (now table) ≡ 2 ^ (m - 4))) ⌝ }
-    ensures { λ r. ⌜ r ≡ beforeCall m n (now (table .entry)) ⌝ }
+pub fn before_call(table: &[u8], t: u32, m: u32, n: u32) -> u32
+    requires { ⌜ ((m ≡ 0 → ⊥) → (1 ≤ t) × (t ≤ m) × (m ≤ 16) × (length (now table) ≡ 2 ^ (m - t))) ⌝ }
+    ensures { λ r. ⌜ r ≡ beforeCall t m n (now (table .entry)) ⌝ }
 {
     if m == 0 {
         return 8;
@@ -106,5 +103,32 @@ pub fn before_call(table: &[u8], m: u32, n: u32) -> u32
     if n != 0 {
         return n;
     }
-    if blocks::damaged(table, m) { 20 } else { 0 }
+    if blocks::damaged(table, t, m) { 20 } else { 0 }
+}
+
+// Where a pointer leads: to the number that refuses it, or to the block of its referent, by its start and order.
+pub enum Located {
+    Refused(u32),
+    Inside(u32, u32),
+}
+
+// What every call that needs a pointer's referent judges it by, the table being undamaged.
+pub fn locate(table: &[u8], t: u32, m: u32, p: u32) -> Located
+    requires { ⌜ (1 ≤ t) × (t ≤ m) × (m ≤ 16) × (length (now table) ≡ 2 ^ (m - t)) × (damagedBy t m (now table) ≡ false) ⌝ }
+    ensures { λ r. ⌜ r ≡ located (heapView t m (heapOf [] (now (table .entry)))) p ⌝ }
+{
+    match blocks::referent_of(table, t, m, p) {
+        Referent::Missing => Located::Refused(22),
+        Referent::Found(s, e) => Located::Inside(s, e),
+    }
+}
+
+// The number of a refusal, 0 for a block.
+pub fn number_of(l: Located) -> u32
+    ensures { λ r. ⌜ r ≡ numberIn l ⌝ }
+{
+    match l {
+        Located::Refused(n) => n,
+        Located::Inside(_, _) => 0,
+    }
 }

@@ -1,21 +1,37 @@
 // The calls once their input has been judged: the lengths fit, the table is undamaged, the arguments are in range. What is left to refuse
-// depends on the blocks (21 to 25). A run calls `call`, and never scans the table.
+// depends on the blocks (21 to 25). A slot has 2^t bytes. A run calls `call`, and never scans the table.
 use crate::Answer;
 use crate::Call;
 use crate::answers::accepted;
 use crate::answers::refused;
+use crate::refusals::Located;
+use crate::refusals::locate;
+use crate::refusals::number_of;
+use blocks::BASE;
+use blocks::MARK;
 use blocks::Place;
 use blocks::Referent;
 ghost use mathlib.Core.Path.{_≡_};
-ghost use Prim.Native.Nat.{_+_, _-_, _^_, _≤_, _<_, min};
+ghost use Prim.Native.Nat.{_+_, _-_, _^_, _≤_, _<_, min, max};
+ghost use mathlib.Core.Bool.{false};
+ghost use mathlib.Core.List.{[]};
+ghost use lib.ListN.{length};
+ghost use Rattle.blocks.specs.Tables.{damagedBy};
+ghost use Rattle.blocks.specs.Pointers.{marked};
 ghost use Rattle.blocks.specs.Blocks.{base, leftIn};
-ghost use Rattle.heap.specs.Heaps.{heapOf, outcome, heapStep, heapCheck};
-ghost use Rattle.heap.specs.Judging.{Sound, Ready, Holding, steppedIn};
+ghost use Rattle.heap.specs.Heaps.{heapOf, heapView, outcome, heapStep, checkStep};
+ghost use Rattle.heap.specs.Judging.{Sound, Ready, Holding, steppedIn, located, numberIn};
 
 fn least(a: u32, b: u32) -> u32
     ensures { λ r. ⌜ r ≡ min a b ⌝ }
 {
     if a < b { a } else { b }
+}
+
+fn greatest(a: u32, b: u32) -> u32
+    ensures { λ r. ⌜ r ≡ max a b ⌝ }
+{
+    if a < b { b } else { a }
 }
 
 // Bytes from p to the end of the block of order e at s.
@@ -31,76 +47,85 @@ fn offset(p: u32) -> usize
     requires { ⌜ base ≤ p ⌝ }
     ensures { λ r. ⌜ r ≡ p - base ⌝ }
 {
-    (p - 65536) as usize
+    (p - BASE) as usize
 }
 
-pub fn get(arena: &mut [u8], table: &mut [u8], m: u32, n: u32) -> Answer
-    requires { ⌜ Ready m (Call.Get n) (now arena) (now table) ⌝ }
-    ensures { λ r. ⌜ outcome r (now (arena .exit)) (now (table .exit)) ≡ heapStep m (Call.Get n) (heapOf (now (arena .entry)) (now (table .entry))) ⌝ }
+pub fn get(arena: &mut [u8], table: &mut [u8], t: u32, m: u32, n: u32) -> Answer
+    requires { ⌜ Ready t m (Call.Get n) (now arena) (now table) ⌝ }
+    ensures { λ r. ⌜ outcome r (now (arena .exit)) (now (table .exit)) ≡ heapStep t m (Call.Get n) (heapOf (now (arena .entry)) (now (table .entry))) ⌝ }
 {
-    let e = blocks::needed_order(m, n);
-    match blocks::find_place(table, m, e) {
+    let e = blocks::needed_order(t, m, n);
+    match blocks::find_place(table, t, m, e) {
         Place::Nothing => refused(21),
         Place::At { slot, order: _ } => {
-            common::fill(table, slot, blocks::slots_of(e), (e % 256) as u8);
-            common::fill(arena, slot * 16, blocks::size_of(e) as usize, 0);
-            accepted(65536 + (slot * 16) as u32)
+            common::fill(table, slot, blocks::slots_of(t, e), (e % 256) as u8);
+            let at = slot * blocks::size_of(t) as usize;
+            common::fill(arena, at, blocks::size_of(e) as usize, 0);
+            accepted(BASE + at as u32)
         }
     }
 }
 
-pub fn give(arena: &[u8], table: &mut [u8], m: u32, p: u32) -> Answer
-    requires { ⌜ Ready m (Call.Give p) (now arena) (now table) ⌝ }
-    ensures { λ r. ⌜ outcome r (now (arena .entry)) (now (table .exit)) ≡ heapStep m (Call.Give p) (heapOf (now (arena .entry)) (now (table .entry))) ⌝ }
+pub fn give(arena: &[u8], table: &mut [u8], t: u32, m: u32, p: u32) -> Answer
+    requires { ⌜ Ready t m (Call.Give p) (now arena) (now table) ⌝ }
+    ensures { λ r. ⌜ outcome r (now (arena .entry)) (now (table .exit)) ≡ heapStep t m (Call.Give p) (heapOf (now (arena .entry)) (now (table .entry))) ⌝ }
 {
-    match blocks::referent_of(table, m, p) {
-        Referent::Missing => refused(22),
-        Referent::Found(s, e) => {
+    match locate(table, t, m, p) {
+        Located::Refused(number) => refused(number),
+        Located::Inside(s, e) => {
             if s != p {
                 return refused(23);
             }
-            common::fill(table, offset(p) / 16, blocks::slots_of(e), 0);
+            common::fill(table, offset(p) >> t, blocks::slots_of(t, e), 0);
             accepted(0)
         }
     }
 }
 
 // The sum of the address q and the step i, inside the block of order e that starts at s and holds h, or in its reach.
-fn stepped(s: u32, e: u32, h: u32, q: u32, i: u32) -> Answer
-    requires { ⌜ Holding s e h q ⌝ }
-    ensures { λ r. ⌜ r ≡ steppedIn s e h q i ⌝ }
+fn stepped(t: u32, s: u32, e: u32, h: u32, q: u32, i: u32) -> Answer
+    requires { ⌜ Holding t s e h q ⌝ }
+    ensures { λ r. ⌜ r ≡ steppedIn t s e h q i ⌝ }
 {
     let r = std::num::wrapping_add_u32(q, i);
     if blocks::passes(h, q, i, e) {
         return accepted(r);
     }
     let end = s + blocks::size_of(e);
-    if s - 8 <= r && r < s {
-        return accepted(2147483648 + r);
+    let reach = blocks::size_of(t - 1);
+    if s - reach <= r && r < s {
+        return accepted(MARK + r);
     }
-    if end <= r && r < end + 8 {
-        return accepted(2147483648 + r);
+    if end <= r && r < end + reach {
+        return accepted(MARK + r);
     }
     refused(24)
 }
 
-pub fn step(arena: &[u8], table: &[u8], m: u32, p: u32, i: u32) -> Answer
-    requires { ⌜ Ready m (Call.Step p i) (now arena) (now table) ⌝ }
-    ensures { λ r. ⌜ outcome r (now (arena .entry)) (now (table .entry)) ≡ heapStep m (Call.Step p i) (heapOf (now (arena .entry)) (now (table .entry))) ⌝ }
+pub fn step(arena: &[u8], table: &[u8], t: u32, m: u32, p: u32, i: u32) -> Answer
+    requires { ⌜ Ready t m (Call.Step p i) (now arena) (now table) ⌝ }
+    ensures { λ r. ⌜ outcome r (now (arena .entry)) (now (table .entry)) ≡ heapStep t m (Call.Step p i) (heapOf (now (arena .entry)) (now (table .entry))) ⌝ }
 {
-    match blocks::referent_of(table, m, p) {
-        Referent::Missing => refused(22),
-        Referent::Found(s, e) => stepped(s, e, blocks::sought_address(p), blocks::address_of(p), i),
+    match locate(table, t, m, p) {
+        Located::Refused(number) => refused(number),
+        Located::Inside(s, e) => stepped(
+            t,
+            s,
+            e,
+            blocks::sought_address(t, p),
+            blocks::address_of(p),
+            i,
+        ),
     }
 }
 
-pub fn read(arena: &[u8], table: &[u8], m: u32, p: u32, w: u8) -> Answer
-    requires { ⌜ Ready m (Call.Read p w) (now arena) (now table) ⌝ }
-    ensures { λ r. ⌜ outcome r (now (arena .entry)) (now (table .entry)) ≡ heapStep m (Call.Read p w) (heapOf (now (arena .entry)) (now (table .entry))) ⌝ }
+pub fn read(arena: &[u8], table: &[u8], t: u32, m: u32, p: u32, w: u8) -> Answer
+    requires { ⌜ Ready t m (Call.Read p w) (now arena) (now table) ⌝ }
+    ensures { λ r. ⌜ outcome r (now (arena .entry)) (now (table .entry)) ≡ heapStep t m (Call.Read p w) (heapOf (now (arena .entry)) (now (table .entry))) ⌝ }
 {
-    match blocks::referent_of(table, m, p) {
-        Referent::Missing => refused(22),
-        Referent::Found(s, e) => {
+    match locate(table, t, m, p) {
+        Located::Refused(number) => refused(number),
+        Located::Inside(s, e) => {
             let width = w as usize;
             if (left_in(s, e, p) as usize) < width {
                 return refused(25);
@@ -110,13 +135,13 @@ pub fn read(arena: &[u8], table: &[u8], m: u32, p: u32, w: u8) -> Answer
     }
 }
 
-pub fn write(arena: &mut [u8], table: &[u8], m: u32, p: u32, w: u8, v: u32) -> Answer
-    requires { ⌜ Ready m (Call.Write p w v) (now arena) (now table) ⌝ }
-    ensures { λ r. ⌜ outcome r (now (arena .exit)) (now (table .entry)) ≡ heapStep m (Call.Write p w v) (heapOf (now (arena .entry)) (now (table .entry))) ⌝ }
+pub fn write(arena: &mut [u8], table: &[u8], t: u32, m: u32, p: u32, w: u8, v: u32) -> Answer
+    requires { ⌜ Ready t m (Call.Write p w v) (now arena) (now table) ⌝ }
+    ensures { λ r. ⌜ outcome r (now (arena .exit)) (now (table .entry)) ≡ heapStep t m (Call.Write p w v) (heapOf (now (arena .entry)) (now (table .entry))) ⌝ }
 {
-    match blocks::referent_of(table, m, p) {
-        Referent::Missing => refused(22),
-        Referent::Found(s, e) => {
+    match locate(table, t, m, p) {
+        Located::Refused(number) => refused(number),
+        Located::Inside(s, e) => {
             let size = w as usize;
             if (left_in(s, e, p) as usize) < size {
                 return refused(25);
@@ -127,38 +152,49 @@ pub fn write(arena: &mut [u8], table: &[u8], m: u32, p: u32, w: u8, v: u32) -> A
     }
 }
 
-pub fn left(arena: &[u8], table: &[u8], m: u32, p: u32) -> Answer
-    requires { ⌜ Ready m (Call.Left p) (now arena) (now table) ⌝ }
-    ensures { λ r. ⌜ outcome r (now (arena .entry)) (now (table .entry)) ≡ heapStep m (Call.Left p) (heapOf (now (arena .entry)) (now (table .entry))) ⌝ }
+pub fn left(arena: &[u8], table: &[u8], t: u32, m: u32, p: u32) -> Answer
+    requires { ⌜ Ready t m (Call.Left p) (now arena) (now table) ⌝ }
+    ensures { λ r. ⌜ outcome r (now (arena .entry)) (now (table .entry)) ≡ heapStep t m (Call.Left p) (heapOf (now (arena .entry)) (now (table .entry))) ⌝ }
 {
-    match blocks::referent_of(table, m, p) {
-        Referent::Missing => refused(22),
-        Referent::Found(s, e) => accepted(left_in(s, e, p)),
+    match locate(table, t, m, p) {
+        Located::Refused(number) => refused(number),
+        Located::Inside(s, e) => accepted(left_in(s, e, p)),
     }
 }
 
-pub fn copy(arena: &mut [u8], table: &[u8], m: u32, p: u32, q: u32, n: u32) -> Answer
-    requires { ⌜ Ready m (Call.Copy p q n) (now arena) (now table) ⌝ }
-    ensures { λ r. ⌜ outcome r (now (arena .exit)) (now (table .entry)) ≡ heapStep m (Call.Copy p q n) (heapOf (now (arena .entry)) (now (table .entry))) ⌝ }
+// The refusal of a copy's two pointers, 0 for none: the number decides, not the pointer, and the one that comes later in a pointer's own list is the lesser.
+fn both_refused(table: &[u8], t: u32, m: u32, p: u32, q: u32) -> u32
+    requires { ⌜ (1 ≤ t) × (t ≤ m) × (m ≤ 16) × (length (now table) ≡ 2 ^ (m - t)) × (damagedBy t m (now table) ≡ false) ⌝ }
+    ensures { λ r. ⌜ r ≡ max (numberIn (located (heapView t m (heapOf [] (now (table .entry)))) p)) (numberIn (located (heapView t m (heapOf [] (now (table .entry)))) q)) ⌝ }
 {
-    let Referent::Found(s, e) = blocks::referent_of(table, m, p) else {
-        return refused(22);
+    greatest(
+        number_of(locate(table, t, m, p)),
+        number_of(locate(table, t, m, q)),
+    )
+}
+
+pub fn copy(arena: &mut [u8], table: &[u8], t: u32, m: u32, p: u32, q: u32, n: u32) -> Answer
+    requires { ⌜ Ready t m (Call.Copy p q n) (now arena) (now table) ⌝ }
+    ensures { λ r. ⌜ outcome r (now (arena .exit)) (now (table .entry)) ≡ heapStep t m (Call.Copy p q n) (heapOf (now (arena .entry)) (now (table .entry))) ⌝ }
+{
+    let Located::Inside(s, e) = locate(table, t, m, p) else {
+        return refused(both_refused(table, t, m, p, q));
     };
-    let Referent::Found(z, k) = blocks::referent_of(table, m, q) else {
-        return refused(22);
+    let Located::Inside(z, k) = locate(table, t, m, q) else {
+        return refused(both_refused(table, t, m, p, q));
     };
     let c = least(n, least(left_in(s, e, p), left_in(z, k, q)));
     common::copy(arena, offset(p), offset(q), c as usize);
     accepted(c)
 }
 
-pub fn fill(arena: &mut [u8], table: &[u8], m: u32, p: u32, v: u8, n: u32) -> Answer
-    requires { ⌜ Ready m (Call.Fill p v n) (now arena) (now table) ⌝ }
-    ensures { λ r. ⌜ outcome r (now (arena .exit)) (now (table .entry)) ≡ heapStep m (Call.Fill p v n) (heapOf (now (arena .entry)) (now (table .entry))) ⌝ }
+pub fn fill(arena: &mut [u8], table: &[u8], t: u32, m: u32, p: u32, v: u8, n: u32) -> Answer
+    requires { ⌜ Ready t m (Call.Fill p v n) (now arena) (now table) ⌝ }
+    ensures { λ r. ⌜ outcome r (now (arena .exit)) (now (table .entry)) ≡ heapStep t m (Call.Fill p v n) (heapOf (now (arena .entry)) (now (table .entry))) ⌝ }
 {
-    match blocks::referent_of(table, m, p) {
-        Referent::Missing => refused(22),
-        Referent::Found(s, e) => {
+    match locate(table, t, m, p) {
+        Located::Refused(number) => refused(number),
+        Located::Inside(s, e) => {
             let c = least(n, left_in(s, e, p));
             common::fill(arena, offset(p), c as usize, v);
             accepted(c)
@@ -166,34 +202,34 @@ pub fn fill(arena: &mut [u8], table: &[u8], m: u32, p: u32, v: u8, n: u32) -> An
     }
 }
 
-// The public check, once its address has been judged as left's is.
-pub fn check(arena: &[u8], table: &[u8], m: u32, p: u32, i: u32) -> Answer
-    requires { ⌜ Ready m (Call.Left p) (now arena) (now table) ⌝ }
-    ensures { λ r. ⌜ r ≡ heapCheck p i (heapOf (now (arena .entry)) (now (table .entry))) ⌝ }
+// The check of a plain address.
+pub fn check(arena: &[u8], table: &[u8], t: u32, m: u32, p: u32, i: u32) -> Answer
+    requires { ⌜ Sound t m (now arena) (now table) × (marked p ≡ false) ⌝ }
+    ensures { λ r. ⌜ r ≡ checkStep t m p i (heapOf (now (arena .entry)) (now (table .entry))) ⌝ }
 {
-    match blocks::referent_of(table, m, p) {
-        Referent::Missing => refused(22),
-        Referent::Found(_, e) => accepted(if blocks::passes(p, p, i, e) { 1 } else { 0 }),
+    match locate(table, t, m, p) {
+        Located::Refused(number) => refused(number),
+        Located::Inside(_, e) => accepted(if blocks::passes(p, p, i, e) { 1 } else { 0 }),
     }
 }
 
 // Any call, its arguments judged too: only lengths and damage are taken for granted.
-pub fn call(arena: &mut [u8], table: &mut [u8], m: u32, c: Call) -> Answer
-    requires { ⌜ Sound m (now arena) (now table) ⌝ }
-    ensures { λ r. ⌜ outcome r (now (arena .exit)) (now (table .exit)) ≡ heapStep m c (heapOf (now (arena .entry)) (now (table .entry))) ⌝ }
+pub fn call(arena: &mut [u8], table: &mut [u8], t: u32, m: u32, c: Call) -> Answer
+    requires { ⌜ Sound t m (now arena) (now table) ⌝ }
+    ensures { λ r. ⌜ outcome r (now (arena .exit)) (now (table .exit)) ≡ heapStep t m c (heapOf (now (arena .entry)) (now (table .entry))) ⌝ }
 {
     let n = crate::refusals::arguments(m, c);
     if n != 0 {
         return refused(n);
     }
     match c {
-        Call::Get(n) => get(arena, table, m, n),
-        Call::Give(p) => give(arena, table, m, p),
-        Call::Step(p, i) => step(arena, table, m, p, i),
-        Call::Read(p, w) => read(arena, table, m, p, w),
-        Call::Write(p, w, v) => write(arena, table, m, p, w, v),
-        Call::Left(p) => left(arena, table, m, p),
-        Call::Copy(p, q, n) => copy(arena, table, m, p, q, n),
-        Call::Fill(p, v, n) => fill(arena, table, m, p, v, n),
+        Call::Get(n) => get(arena, table, t, m, n),
+        Call::Give(p) => give(arena, table, t, m, p),
+        Call::Step(p, i) => step(arena, table, t, m, p, i),
+        Call::Read(p, w) => read(arena, table, t, m, p, w),
+        Call::Write(p, w, v) => write(arena, table, t, m, p, w, v),
+        Call::Left(p) => left(arena, table, t, m, p),
+        Call::Copy(p, q, n) => copy(arena, table, t, m, p, q, n),
+        Call::Fill(p, v, n) => fill(arena, table, t, m, p, v, n),
     }
 }

@@ -15,23 +15,22 @@ use lib.Pow.{pow-pos, pow-mono, low}
 use borrow.Author.Tests.{leb-true, ltb-true, le-leb, lt-leb, lt-ltb, le-ltb}
 use Rattle.blocks.specs.Blocks.{base, Block, holds, Aligned}
 use Rattle.blocks.specs.Pointers.{markBit, marked, address, sought, signed, exactSum, within, inReach}
-use Rattle.blocks.specs.Orders.{orderOf}
 use Rattle.blocks.specs.declared.Referent.the-variants.{Found}
 use Rattle.blocks.proofs.Booleans.{and-left, and-right}
 use Rattle.blocks.proofs.Floors.{pow-split}
 use Rattle.blocks.proofs.Sets.{held-high, missing-none, member-found}
 use Rattle.blocks.proofs.Slots.{slots-of}
-use Rattle.heap.specs.Views.{View, slotOrder}
-use Rattle.heap.specs.Rules.{rules, argumentRules, stateRules}
+use Rattle.heap.specs.Views.{View}
+use Rattle.heap.specs.Rules.{rules, argumentRules, stateRules, addressRules}
 use Rattle.heap.specs.Effects.{value, stored, Outcome, judged}
-use Rattle.heap.specs.Heaps.{Heap, heapOf, heapView, viewOf, entered, heapStep, heapCall, heapCheck, bit}
-use Rattle.heap.specs.declared.Call.the-variants.{Step, Left}
+use Rattle.heap.specs.Heaps.{Heap, heapOf, heapView, entered, heapStep, checkStep, bit}
+use Rattle.heap.specs.Changes.{keeps}
+use Rattle.heap.specs.declared.Call.the-variants.{Step}
 use Rattle.history.specs.Ledgers.{Ledger, ledgerView}
 use Rattle.history.specs.Demand3.{accepted, distance}
-use Rattle.history.proofs.Agreement.{Proper, none, more, Agree}
+use Rattle.history.proofs.Agreement.{Proper, none, more, Orders, Agree}
 use Rattle.history.proofs.Pairs.{holds-by, proper-set}
 use Rattle.history.proofs.Simulation.{view-same}
-use Rattle.history.proofs.Runs.{order-same}
 
 -- ---- blocks apart
 
@@ -41,7 +40,8 @@ member-at (c ∷ bs) b zero h = List·Memᴰ·head refl
 member-at (c ∷ bs) b (suc i) h = List·Memᴰ·tail (member-at bs b i (omega arith))
 
 -- no two places of the list have blocks that share an address
-pub places-apart : {t m : ℕ} {bs : List Block} → Proper t m bs → (i j : ℕ) (b : Block) → i < j → j < length bs → (q : ℕ) → holds (getD bs i b) q ≡ true → holds (getD bs j b) q ≡ true → ⊥
+pub places-apart : {t m : ℕ} {bs : List Block} → Proper t m bs → (i j : ℕ) (b : Block) → i < j → j < length bs → (q : ℕ)
+    → holds (getD bs i b) q ≡ true → holds (getD bs j b) q ≡ true → ⊥
 places-apart none i j b l h q x y = omega arith
 places-apart (more a d p) i zero b l h q x y = omega arith
 places-apart (more {bs = bs} a d p) zero (suc j) b l h q x y = false≢true (sym (missing-none bs q (d q x) _ (member-at bs b j (omega arith))) ∙ y)
@@ -143,7 +143,8 @@ module _ (t m : ℕ) (b : Block) (a : Aligned t m b) (slot : 1 ≤ t) (size : m 
       reach : 2 ^ (t - 1) ≤ b .start
       reach = let p : 2 ^ (t - 1) ≤ 2 ^ 16 = pow-mono {i = t - 1} {j = 16} (omega (arith, a .low, a .high)) in omega (arith, a .place)
 
-      go : (leZ (subℕ (b .start) (2 ^ (t - 1))) (pos r) && ltb r (b .start) ≡ true) ⊎ (leb (b .start + 2 ^ b .order) r && ltb r (b .start + 2 ^ b .order + 2 ^ (t - 1)) ≡ true)
+      go : (leZ (subℕ (b .start) (2 ^ (t - 1))) (pos r) && ltb r (b .start) ≡ true)
+          ⊎ (leb (b .start + 2 ^ b .order) r && ltb r (b .start + 2 ^ b .order + 2 ^ (t - 1)) ≡ true)
           → LeadsBack t r b
       go (inl x) =
           let y : leb (b .start - 2 ^ (t - 1)) r && ltb r (b .start) ≡ true = rw (sub-pos (b .start) (2 ^ (t - 1)) _ reach refl) at x in
@@ -153,49 +154,53 @@ module _ (t m : ℕ) (b : Block) (a : Aligned t m b) (slot : 1 ≤ t) (size : m 
 
 -- ---- the calls
 
-module _ (m : ℕ) (five : 5 ≤ m) (top : m ≤ 16) (h : Heap) (l : Ledger) (agree : Agree m h l) (b : Block) (member : List·Memᴰ b (l .pairs)) where
-  aligned : Aligned slotOrder m b
+module _ {t m : ℕ} (os : Orders t m) (h : Heap) (l : Ledger) (agree : Agree t m h l) (b : Block) (member : List·Memᴰ b (l .pairs)) where
+  aligned : Aligned t m b
   aligned = proper-set (agree .proper) .aligned b member
 
   small : b .start + 2 ^ b .order ≤ 2 ^ 17
-  small = let p : 2 ^ m ≤ 2 ^ 16 = pow-mono top in omega (arith, aligned .inside)
+  small = let p : 2 ^ m ≤ 2 ^ 16 = pow-mono (os .high) in omega (arith, aligned .inside)
 
-  -- what is decided by the arena's order and the heap's view is decided by m and the ledger's
-  by-ledger : (call : ℕ → View → Outcome Heap) → call (orderOf (length (h .arena))) (viewOf h) ≡ call m (ledgerView l)
-  by-ledger call = ap (λ (n : ℕ). call n (heapView n h)) (order-same m five top h l agree) ∙ ap (call m) (view-same m five top h l agree)
+  slot-small : 2 ^ (t - 1) ≤ 2 ^ 16
+  slot-small = pow-mono {i = t - 1} {j = 16} (omega (arith, os .slot-high, os .high))
+
+  -- what is decided by the heap's view is decided by the ledger's
+  by-ledger : (call : View → Outcome Heap) → call (heapView t m h) ≡ call (ledgerView t m l)
+  by-ledger call = ap call (view-same os h l agree)
 
   -- the two calls by a view
-  abbrev checked : (q i n : ℕ) → View → Outcome Heap
-  checked q i n w = judged (rules n (Left q) w) h (bit (w .inside q i)) h
+  abbrev checked : (q i : ℕ) → View → Outcome Heap
+  checked q i w = judged (addressRules w q) h (bit (w .inside q i)) h
 
-  abbrev stepped : (p i n : ℕ) → View → Outcome Heap
-  stepped p i n w =
-      judged (rules n (Step p i) w) h (value n (Step p i) w (h .arena)) (heapOf (stored n (Step p i) w (h .arena)) (entered n (Step p i) w (h .table)))
+  abbrev stepped : (p i : ℕ) → View → Outcome Heap
+  stepped p i w =
+      judged (rules (Step p i) w) h (value (Step p i) w (h .arena)) (heapOf (stored (Step p i) w (h .arena)) (entered keeps w (h .table)))
 
   module _ (q : ℕ) (held : holds b q ≡ true) where
     low-address : q < 2 ^ 31
     low-address = omega (arith, held-high b q held, small)
 
-    check-by-ledger : (i : ℕ) → checked q i m (ledgerView l) ≡ record { answer = accepted (bit (within (Found (b .start) (b .order)) (exactSum q i))); state = h }
-    unfolding rules argumentRules stateRules sought
-    check-by-ledger i = rw (lt-leb markBit q low-address, member-found slotOrder m (l .pairs) (proper-set (agree .proper)) b q member held)
+    check-by-ledger : (i : ℕ)
+        → checked q i (ledgerView t m l) ≡ record { answer = accepted (bit (within (Found (b .start) (b .order)) (exactSum q i))); state = h }
+    unfolding addressRules sought
+    check-by-ledger i = rw (lt-leb markBit q low-address, member-found t m (l .pairs) (proper-set (agree .proper)) b q member held)
 
-    pub check-is : (i : ℕ) → heapCheck q i h ≡ accepted (bit (within (Found (b .start) (b .order)) (exactSum q i)))
-    unfolding heapCheck
-    check-is i =
-        ap (λ (o : Outcome Heap). o .answer) (by-ledger (checked q i) ∙ check-by-ledger i)
+    pub check-is : (i : ℕ) → checkStep t m q i h ≡ accepted (bit (within (Found (b .start) (b .order)) (exactSum q i)))
+    unfolding checkStep
+    check-is i = ap (λ (o : Outcome Heap). o .answer) (by-ledger (checked q i) ∙ check-by-ledger i)
 
-    module _ (r : ℕ) (reach : inReach slotOrder (Found (b .start) (b .order)) (pos r) ≡ true) where
-      back : LeadsBack slotOrder r b
-      back = leads-back slotOrder m b aligned (omega arith) top r reach
+    module _ (r : ℕ) (reach : inReach t (Found (b .start) (b .order)) (pos r) ≡ true) where
+      back : LeadsBack t r b
+      back = leads-back t m b aligned (os .slot-low) (os .high) r reach
 
       exact : exactSum (address (markBit + r)) (distance r q) ≡ pos q
-      exact = ap (λ (x : ℕ). exactSum x (distance r q)) (address-mark r) ∙ exact-distance r q (omega (arith, back .near, small)) low-address
+      exact =
+          ap (λ (x : ℕ). exactSum x (distance r q)) (address-mark r) ∙ exact-distance r q (omega (arith, back .near, small, slot-small)) low-address
 
-      step-by-ledger : stepped (markBit + r) (distance r q) m (ledgerView l) ≡ record { answer = accepted q; state = h }
+      step-by-ledger : stepped (markBit + r) (distance r q) (ledgerView t m l) ≡ record { answer = accepted q; state = h }
       unfolding rules argumentRules stateRules value stored entered within
-      step-by-ledger = rw (back .seeks, member-found slotOrder m (l .pairs) (proper-set (agree .proper)) b (back .at) member (back .held), exact, held)
+      step-by-ledger = rw (back .seeks, member-found t m (l .pairs) (proper-set (agree .proper)) b (back .at) member (back .held), exact, held)
 
-      pub recovers : heapCall (Step (markBit + r) (distance r q)) h ≡ record { answer = accepted q; state = h }
-      unfolding heapCall heapStep
+      pub recovers : heapStep t m (Step (markBit + r) (distance r q)) h ≡ record { answer = accepted q; state = h }
+      unfolding heapStep
       recovers = by-ledger (stepped (markBit + r) (distance r q)) ∙ step-by-ledger

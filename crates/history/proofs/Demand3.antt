@@ -15,28 +15,32 @@ use Prim.Native.Nat.{ℕ, _≤_}
 use mathlib.Core.Path.{_≡_, sym, _∙_, ap, subst}
 use mathlib.Core.List.{List, List·Memᴰ}
 use Rattle.heap.specs.Views.{slotOrder}
-use Rattle.heap.specs.Heaps.{freshHeap}
+use Rattle.heap.specs.Heaps.{heapCall, freshHeap, checkStep, heapCheck}
 use Rattle.heap.specs.declared.Call.{Call}
 use Rattle.history.specs.Ledgers.{emptyLedger}
 use Rattle.history.specs.Runs.{heapRun, ledgerRun}
 use Rattle.history.specs.Histories.{liveBy}
 use Rattle.history.specs.Demand3.{after, live, Demand3}
-use Rattle.history.proofs.Agreement.{Proper}
+use Rattle.history.proofs.Agreement.{Proper, Orders}
 use Rattle.history.proofs.Pairs.{proper-set}
-use Rattle.history.proofs.Runs.{fresh-agree, fresh-is, Alike, run-same}
+use Rattle.history.proofs.Runs.{fresh-agree, slot-orders, fresh-is, order-same, call-steps, Alike, run-same}
 use Rattle.history.proofs.Live.{lives}
 use Rattle.history.proofs.Checking.{places-apart, check-is, recovers}
 use Rattle.history.proofs.Room.{room}
 
-alike : (m : ℕ) → 5 ≤ m → m ≤ 16 → (cs : List Call) → Alike m (heapRun m cs) (ledgerRun m cs)
-alike m five top cs = run-same m five top cs (freshHeap m) (emptyLedger m) (fresh-agree m)
+alike : {m : ℕ} → Orders slotOrder m → (cs : List Call) → Alike slotOrder m (heapRun m cs) (ledgerRun m cs)
+alike {m} os cs = run-same os heapCall (call-steps os) cs (freshHeap m) (emptyLedger m) (fresh-agree slotOrder m)
 
 pub demand3 : (m : ℕ) → 5 ≤ m → m ≤ 16 → (cs : List Call) → Demand3 m cs
+unfolding heapCheck
 demand3 m five top cs =
+    let os = slot-orders m five top in
     let l = ledgerRun m cs .last in
-    let same = alike m five top cs .answers in
-    let agree = alike m five top cs .agree in
-    let are : live m cs ≡ l .pairs = ap (liveBy m cs) same ∙ lives m cs in
+    let same = alike os cs .answers in
+    let agree = alike os cs .agree in
+    let step = call-steps os (after m cs) l agree in
+    let order = order-same os (after m cs) l agree in
+    let are : live m cs ≡ l .pairs = ap (liveBy slotOrder m cs) same ∙ lives slotOrder m cs in
     record {
       start = λ h a t. fresh-is m h five top a t;
       answers = same;
@@ -44,11 +48,12 @@ demand3 m five top cs =
       pairs = proper-set (agree .proper);
       table = agree .table;
       lives = are;
-      check = λ b i q k. check-is m five top (after m cs) l agree b (subst (List·Memᴰ b) are i) q k;
-      recovery = λ b i r x q k. recovers m five top (after m cs) l agree b (subst (List·Memᴰ b) are i) q k r x;
+      check = λ b i q k j.
+          ap (λ (o : ℕ). checkStep slotOrder o q j (after m cs)) order ∙ check-is os (after m cs) l agree b (subst (List·Memᴰ b) are i) q k j;
+      recovery = λ b i r x q k. step _ ∙ recovers os (after m cs) l agree b (subst (List·Memᴰ b) are i) q k r x;
       apart = places-apart (subst (Proper slotOrder m) (sym are) (agree .proper));
       room =
           λ before later c xs ys x whole split place.
-          room m five before later c xs ys x _ (alike m five top before .agree)
+          room os before later c xs ys x (alike os before .agree .proper)
           (ap (λ (ds : List Call). ledgerRun m ds .answers) (sym whole) ∙ sym same ∙ split) place;
     }

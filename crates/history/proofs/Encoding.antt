@@ -1,13 +1,13 @@
 -- Calls as bytes: one call read, and the calls from one place on.
 use Prim.Native.Nat.{ℕ, suc, _+_, _-_, _*_, _≤_, _<_}
 use mathlib.Core.Path.{_≡_}
-use mathlib.Core.Bool.{true, false, not, _&&_, _||_}
+use mathlib.Core.Bool.{true, false, not, _||_}
 use mathlib.Core.List.{List, _∷_}
 use native.Mathlib.Omega.{arith}
-use lib.Dec.{leb}
 use lib.ListN.{getD}
 use borrow.Author.Tests.{ne-eqb, le-leb, lt-leb}
 use Rattle.common.specs.Bytes.{bigEndian}
+use Rattle.heap.specs.Operations.{lastOperation, isOperation}
 use Rattle.heap.specs.declared.Call.the-variants.{Fill}
 use Rattle.history.specs.Replaying.{callLength, callOf, callAt, callsFrom, unknownFrom}
 
@@ -33,18 +33,18 @@ module _ (s : List ℕ) (n i : ℕ) (l : i < n) where
   abbrev op : ℕ
   op = getD s (i * callLength) 0
 
-  unknown-here : unknownFrom s (i * callLength) (n - i) ≡ not (leb 1 op && leb op 8) || unknownFrom s ((i + 1) * callLength) (n - (i + 1))
+  unknown-here : unknownFrom s (i * callLength) (n - i) ≡ not (isOperation op) || unknownFrom s ((i + 1) * callLength) (n - (i + 1))
   unfolding unknownFrom
   unknown-here = rw (one-more, ← next-place)
 
   pub unknown-below : op < 1 → unknownFrom s (i * callLength) (n - i) ≡ true
   unknown-below h = rw (unknown-here, lt-leb 1 op h)
 
-  pub unknown-above : 1 ≤ op → 8 < op → unknownFrom s (i * callLength) (n - i) ≡ true
-  unknown-above p h = rw (unknown-here, le-leb 1 op p, lt-leb op 8 h)
+  pub unknown-above : 1 ≤ op → lastOperation < op → unknownFrom s (i * callLength) (n - i) ≡ true
+  unknown-above p h = rw (unknown-here, le-leb 1 op p, lt-leb op lastOperation h)
 
-  pub known-here : 1 ≤ op → op ≤ 8 → unknownFrom s (i * callLength) (n - i) ≡ unknownFrom s ((i + 1) * callLength) (n - (i + 1))
-  known-here p h = rw (unknown-here, le-leb 1 op p, le-leb op 8 h)
+  pub known-here : 1 ≤ op → op ≤ lastOperation → unknownFrom s (i * callLength) (n - i) ≡ unknownFrom s ((i + 1) * callLength) (n - (i + 1))
+  known-here p h = rw (unknown-here, le-leb 1 op p, le-leb op lastOperation h)
 
 pub none-unknown : (s : List ℕ) (n i : ℕ) → n ≤ i → unknownFrom s (i * callLength) (n - i) ≡ false
 unfolding unknownFrom

@@ -11,7 +11,6 @@ use borrow.Author.Tests.{ltb-false}
 use Rattle.common.specs.Refusals.{first}
 use Rattle.blocks.specs.Blocks.{base, Block, holds, Aligned}
 use Rattle.blocks.specs.Sets.{referentOf}
-use Rattle.blocks.specs.Orders.{neededOrder}
 use Rattle.blocks.specs.declared.Place.{Place}
 use Rattle.blocks.specs.declared.Place.the-variants.{At, Nothing}
 use Rattle.blocks.specs.declared.Referent.the-variants.{Missing}
@@ -20,12 +19,12 @@ use Rattle.blocks.proofs.Floors.{pow-split}
 use Rattle.blocks.proofs.Orders.{Needed, needed-order}
 use Rattle.blocks.proofs.Places.{range-inside, FreePlace, place-sound}
 use Rattle.blocks.proofs.Slots.{block, Slots, aligned-of}
-use Rattle.heap.specs.Views.{slotOrder, placeFor, noPlace, placeAddress}
+use Rattle.heap.specs.Views.{View, neededFor, placeFor, noPlace, placeAddress, startFor}
 use Rattle.heap.specs.Rules.{rules, argumentRules, stateRules}
 use Rattle.heap.specs.declared.Call.the-variants.{Get}
 use Rattle.heap.proofs.Judging.{clear}
 use Rattle.history.specs.Ledgers.{Ledger, ledgerView}
-use Rattle.history.proofs.Agreement.{Proper}
+use Rattle.history.proofs.Agreement.{Proper, Orders}
 use Rattle.history.proofs.Pairs.{unheld, free-slots}
 
 -- the block of order e at the start of the range found is aligned, and no pair holds an address of it
@@ -41,7 +40,8 @@ module _ (t m e : ℕ) (bs : List Block) (p : Proper t m bs) (low : t ≤ e) (s 
   mul : s ≡ w .number * 2 ^ (k - e) * 2 ^ (e - t)
   mul =
       let z : (k - e) + (e - t) ≡ k - t = omega (arith, w .low) in
-      at ∙ (ap (λ (x : ℕ). w .number * x) (ap (λ (x : ℕ). 2 ^ x) (sym z) ∙ pow-add 2 (k - e) (e - t)) ∙ sym (mul-assoc (w .number) (2 ^ (k - e)) (2 ^ (e - t))))
+      at ∙ ap (λ (x : ℕ). w .number * x) (ap (λ (x : ℕ). 2 ^ x) (sym z) ∙ pow-add 2 (k - e) (e - t))
+      ∙ sym (mul-assoc (w .number) (2 ^ (k - e)) (2 ^ (e - t)))
 
   smaller : 2 ^ (e - t) ≤ 2 ^ (k - t)
   smaller = pow-mono (omega (arith, w .low))
@@ -60,22 +60,22 @@ module _ (t m e : ℕ) (bs : List Block) (p : Proper t m bs) (low : t ≤ e) (s 
       }
 
 -- the block that a get adds to the pairs
-abbrev pub got : ℕ → Ledger → ℕ → Block
-got m l n = block (placeAddress (placeFor m n (ledgerView l))) (neededOrder slotOrder m n)
+abbrev pub got : (t m : ℕ) → Ledger → ℕ → Block
+got t m l n = let w = ledgerView t m l in block (startFor n w) (neededFor n w)
 
-module _ (m : ℕ) (big : slotOrder ≤ m) (l : Ledger) (proper : Proper slotOrder m (l .pairs)) (n : ℕ) where
-  abbrev order : ℕ
-  order = neededOrder slotOrder m n
+module _ {t m : ℕ} (os : Orders t m) (l : Ledger) (proper : Proper t m (l .pairs)) (n : ℕ) where
+  abbrev v : View
+  v = ledgerView t m l
 
-  at-place : Needed slotOrder m n order → (x : Place) → placeFor m n (ledgerView l) ≡ x → noPlace x ≡ false
-      → Placed slotOrder m (l .pairs) (block (placeAddress x) order)
+  at-place : Needed t m n (neededFor n v) → (x : Place) → placeFor n v ≡ x → noPlace x ≡ false
+      → Placed t m (l .pairs) (block (placeAddress t x) (neededFor n v))
   at-place need Nothing q y = absurd (false≢true (sym y))
   at-place need (At s k) q y =
-      let free = place-sound (unheld slotOrder (l .pairs)) slotOrder 0 m order s k (omega (arith, need .high)) q in
-      placed slotOrder m order (l .pairs) proper (need .low) s k free
+      let free = place-sound (unheld t (l .pairs)) t 0 m (neededFor n v) s k (omega (arith, need .high)) q in
+      placed t m (neededFor n v) (l .pairs) proper (need .low) s k free
 
-  pub got-placed : first (rules m (Get n) (ledgerView l)) ≡ 0 → Placed slotOrder m (l .pairs) (got m l n)
+  pub got-placed : first (rules (Get n) v) ≡ 0 → Placed t m (l .pairs) (got t m l n)
   unfolding rules argumentRules stateRules
   got-placed z =
-      let c = clear (rules m (Get n) (ledgerView l)) refl z in
-      at-place (needed-order slotOrder m n big (ltb-false (2 ^ m) n (or-false-right (eqb n 0) _ (c 10)))) (placeFor m n (ledgerView l)) refl (c 21)
+      let c = clear (rules (Get n) v) refl z in
+      at-place (needed-order t m n (os .slot-high) (ltb-false (2 ^ m) n (or-false-right (eqb n 0) _ (c 10)))) (placeFor n v) refl (c 21)

@@ -21,26 +21,28 @@ use Rattle.blocks.proofs.Booleans.{and-false-left, or-false-left, or-false-righ
 use Rattle.blocks.proofs.Sets.{held-low, held-high}
 use Rattle.blocks.proofs.Slots.{block}
 use Rattle.blocks.proofs.Tables.{none-passes}
-use Rattle.heap.specs.Views.{View, slotOrder}
+use Rattle.heap.specs.Views.{View, leftFrom}
 use Rattle.heap.specs.Rules.{rules, argumentRules, stateRules, dead}
-use Rattle.heap.specs.Effects.{leftFrom, copyCount, value, stored}
+use Rattle.heap.specs.Effects.{copyCount, value, stored}
+use Rattle.heap.specs.Changes.{Change, adds, removes, keeps, changeOf}
 use Rattle.heap.specs.declared.Call.{Call}
 use Rattle.heap.specs.declared.Call.the-variants.{Get, Give, Step, Read, Write, Left, Copy, Fill}
 use Rattle.heap.proofs.Judging.{clear}
+use Rattle.heap.proofs.Changes.{Changing, gets, gives-back, keeps-all, changing}
 use Rattle.history.specs.Ledgers.{Ledger, ledgerView, without, kept}
 use Rattle.history.specs.Histories.{gives, givesBack}
 use Rattle.history.specs.Demand3.{accepted}
 use Rattle.history.specs.Noninterference.{reveals, EqualOutside}
-use Rattle.history.proofs.Agreement.{Proper}
+use Rattle.history.proofs.Agreement.{Proper, Orders}
 use Rattle.history.proofs.Pairs.{whole, without-in, without-out, without-live, added-found, added-out}
 use Rattle.history.proofs.Gets.{got, got-placed}
 use Rattle.history.proofs.Stores.{Store, Home, home, home-holds, store, stored-length}
 
 -- what two arenas hold at i after the call: what was stored there, or what they held
-stored-same : {m : ℕ} {c : Call} {w : View} (s : Store m c w) (a a′ : List ℕ) → length a ≡ 2 ^ m → length a′ ≡ 2 ^ m → (i : ℕ)
+stored-same : {c : Call} {w : View} (s : Store c w) (a a′ : List ℕ) → length a ≡ 2 ^ w .order → length a′ ≡ 2 ^ w .order → (i : ℕ)
     → ((j : ℕ) → j < s .count → s .at + j ≡ i → getD (s .bytes a) j 0 ≡ getD (s .bytes a′) j 0)
     → ((s .at ≤ i → i < s .at + s .count → ⊥) → getD a i 0 ≡ getD a′ i 0)
-    → getD (stored m c w a) i 0 ≡ getD (stored m c w a′) i 0
+    → getD (stored c w a) i 0 ≡ getD (stored c w a′) i 0
 stored-same s a a′ e e′ i new old =
     let n : length (s .bytes a) ≡ s .count = s .counted a e in
     let n′ : length (s .bytes a′) ≡ s .count = s .counted a′ e′ in
@@ -55,81 +57,65 @@ abbrev pub Standing : Bool → Block → (ℕ → Referent) → List ℕ → Lis
 Standing false b f a a′ = f (b .start) ≡ Found (b .start) (b .order)
 Standing true b f a a′ = (i : ℕ) → missing (f (base + i)) ≡ false → getD a i 0 ≡ getD a′ i 0
 
--- what an accepted call makes of two arenas over the ledger's pairs
-pub record OnBoth (m : ℕ) (c : Call) (l : Ledger) (b : Block) (a a′ : List ℕ) (given : Bool) : Type 0 where
-  pub values : value m c (ledgerView l) a ≡ value m c (ledgerView l) a′
-  pub outside : EqualOutside b (stored m c (ledgerView l) a) (stored m c (ledgerView l) a′)
+-- what an accepted call makes of two arenas over the pairs bs, which w is the view of
+pub record OnBoth (c : Call) (w : View) (bs : List Block) (b : Block) (a a′ : List ℕ) (given : Bool) : Type 0 where
+  pub values : value c w a ≡ value c w a′
+  pub outside : EqualOutside b (stored c w a) (stored c w a′)
   pub standing :
-      Standing (given || givesBack (b .start) c (accepted (value m c (ledgerView l) a))) b (referentOf (kept m c (ledgerView l) (l .pairs)))
-      (stored m c (ledgerView l) a) (stored m c (ledgerView l) a′)
+      Standing (given || givesBack (b .start) c (accepted (value c w a))) b (referentOf (kept (changeOf c) w bs)) (stored c w a) (stored c w a′)
 
-module _ (m : ℕ) (big : slotOrder ≤ m) (l : Ledger) (proper : Proper slotOrder m (l .pairs)) where
+module _ {t m : ℕ} (os : Orders t m) (l : Ledger) (proper : Proper t m (l .pairs)) where
   abbrev w : View
-  w = ledgerView l
+  w = ledgerView t m l
 
   abbrev bs : List Block
   bs = l .pairs
 
   abbrev added : ℕ → Block
-  added n = got m l n
+  added n = got t m l n
 
-  abbrev storeOf : (c : Call) → first (rules m c w) ≡ 0 → Store m c w
-  storeOf c z = store m big l proper c z
+  abbrev storeOf : (c : Call) → first (rules c w) ≡ 0 → Store c w
+  storeOf c z = store os l proper c z
 
   -- ---- the pairs that an accepted call leaves
 
   -- a block stays until its start is given
-  kept-found : (c : Call) (s e : ℕ) → gives c s ≡ false → referentOf bs s ≡ Found s e → referentOf (kept m c w bs) s ≡ Found s e
+  kept-found : (c : Change) (s e : ℕ) → gives c s ≡ false → referentOf bs s ≡ Found s e → referentOf (kept c w bs) s ≡ Found s e
   unfolding kept
-  kept-found (Get n) s e g h = added-found bs (added n) s s e h
-  kept-found (Give p) s e g h = without-out proper p s (λ o y. let z : p ≡ s = cc in eqb-false p s g z) ∙ h
-  kept-found (Step p i) s e g h = h
-  kept-found (Read p k) s e g h = h
-  kept-found (Write p k v) s e g h = h
-  kept-found (Left p) s e g h = h
-  kept-found (Copy p q n) s e g h = h
-  kept-found (Fill p v n) s e g h = h
+  kept-found (adds n) s e g h = added-found bs (added n) s s e h
+  kept-found (removes p) s e g h = without-out proper p s (λ o y. let z : p ≡ s = cc in eqb-false p s g z) ∙ h
+  kept-found keeps s e g h = h
 
   -- once it is given, no block holds an address of it
-  given-back : (c : Call) (s e : ℕ) → gives c s ≡ true → referentOf bs s ≡ Found s e
-      → (q : ℕ) → missing (referentOf (kept m c w bs) q) ≡ false → holds (block s e) q ≡ false
+  given-back : (c : Change) (s e : ℕ) → gives c s ≡ true → referentOf bs s ≡ Found s e
+      → (q : ℕ) → missing (referentOf (kept c w bs) q) ≡ false → holds (block s e) q ≡ false
   unfolding kept
-  given-back (Get n) s e g h q k = absurd (false≢true g)
-  given-back (Give p) s e g h q k = go (holds (block s e) q) refl
+  given-back (adds n) s e g h q k = absurd (false≢true g)
+  given-back (removes p) s e g h q k = go (holds (block s e) q) refl
     where
       go : (u : Bool) → holds (block s e) q ≡ u → u ≡ false
       go true v =
           let gone : referentOf (without s bs) q ≡ Missing = without-in proper s e q (whole proper s e s h q v) in
           absurd (false≢true (sym k ∙ ap (λ (x : ℕ). missing (referentOf (without x bs) q)) (eqb-true p s g) ∙ ap missing gone))
       go false v = refl
-  given-back (Step p i) s e g h q k = absurd (false≢true g)
-  given-back (Read p i) s e g h q k = absurd (false≢true g)
-  given-back (Write p i v) s e g h q k = absurd (false≢true g)
-  given-back (Left p) s e g h q k = absurd (false≢true g)
-  given-back (Copy p r n) s e g h q k = absurd (false≢true g)
-  given-back (Fill p v n) s e g h q k = absurd (false≢true g)
+  given-back keeps s e g h q k = absurd (false≢true g)
 
   -- a place in a block was in one before, unless the call stored there
-  kept-live : (c : Call) (z : first (rules m c w) ≡ 0) (i : ℕ)
+  kept-live : {c : Call} → Changing c → (z : first (rules c w) ≡ 0) (i : ℕ)
       → (storeOf c z .at ≤ i → i < storeOf c z .at + storeOf c z .count → ⊥)
-      → missing (referentOf (kept m c w bs) (base + i)) ≡ false → missing (referentOf bs (base + i)) ≡ false
+      → missing (referentOf (kept (changeOf c) w bs) (base + i)) ≡ false → missing (referentOf bs (base + i)) ≡ false
   unfolding kept store
-  kept-live (Get n) z i o k = ap missing (sym (added-out bs (added n) (base + i) (go (holds (added n) (base + i)) refl))) ∙ k
+  kept-live (gets n) z i o k = ap missing (sym (added-out bs (added n) (base + i) (go (holds (added n) (base + i)) refl))) ∙ k
     where
       go : (u : Bool) → holds (added n) (base + i) ≡ u → u ≡ false
       go true h =
-          let a = got-placed m big l proper n z .aligned in
+          let a = got-placed os l proper n z .aligned in
           let lo = held-low (added n) (base + i) h in
           let hi = held-high (added n) (base + i) h in
           absurd (o (omega (arith, a .place)) (omega (arith, a .place)))
       go false h = refl
-  kept-live (Give p) z i o k = without-live proper p (base + i) k
-  kept-live (Step p j) z i o k = k
-  kept-live (Read p j) z i o k = k
-  kept-live (Write p j v) z i o k = k
-  kept-live (Left p) z i o k = k
-  kept-live (Copy p q n) z i o k = k
-  kept-live (Fill p v n) z i o k = k
+  kept-live (gives-back p) z i o k = without-live proper p (base + i) k
+  kept-live (keeps-all e) z i o k = rw e at k
 
   -- ---- the two arenas
 
@@ -139,7 +125,7 @@ module _ (m : ℕ) (big : slotOrder ≤ m) (l : Ledger) (proper : Proper slotOrd
     size′ = sym (out .sizes) ∙ size
 
     -- a byte that a call takes, j past the pointer p: any once b was given back, before that one outside b
-    byte-same : (p : ℕ) → Home m big l proper p → (j : ℕ) → j < leftFrom w p → (given ≡ false → holds b (p + j) ≡ false)
+    byte-same : (p : ℕ) → Home l proper p → (j : ℕ) → j < leftFrom w p → (given ≡ false → holds b (p + j) ≡ false)
         → getD a (p - base + j) 0 ≡ getD a′ (p - base + j) 0
     byte-same p h j v q = go given known q
       where
@@ -149,30 +135,30 @@ module _ (m : ℕ) (big : slotOrder ≤ m) (l : Ledger) (proper : Proper slotOrd
         go : (g : Bool) → Standing g b (referentOf bs) a a′ → (g ≡ false → holds b (p + j) ≡ false) → getD a (p - base + j) 0 ≡ getD a′ (p - base + j) 0
         go false s r = out .bytes (p - base + j) (ap (holds b) at ∙ r refl)
         go true s r =
-            let found = whole proper (h .start) (h .order) p (h .found) (p + j) (home-holds m big l proper p h j v) in
+            let found = whole proper (h .start) (h .order) p (h .found) (p + j) (home-holds l proper p h j v) in
             s (p - base + j) (ap missing (ap (referentOf bs) at ∙ found))
 
     -- before b is given back, the call does not reveal it
     abbrev Quiet : Call → Type 0
-    Quiet c = given ≡ false → reveals b c (accepted (value m c w a)) ≡ false
+    Quiet c = given ≡ false → reveals b c (accepted (value c w a)) ≡ false
 
-    value-same : (c : Call) → first (rules m c w) ≡ 0 → Quiet c → value m c w a ≡ value m c w a′
+    value-same : (c : Call) → first (rules c w) ≡ 0 → Quiet c → value c w a ≡ value c w a′
     unfolding rules argumentRules stateRules value
     value-same (Get n) z r = refl
     value-same (Give p) z r = refl
     value-same (Step p i) z r = refl
     value-same (Read p k) z r =
-        let c = clear (rules m (Read p k) w) refl z in
+        let c = clear (rules (Read p k) w) refl z in
         let wide : k ≤ leftFrom w p = ltb-false (leftFrom w p) k (c 25) in
         bigEndian-same a a′ (p - base) k
-        (λ j v. byte-same p (home m big l proper p (c 13) (c 22)) j (omega arith) (λ g. none-passes (λ i. holds b (p + i)) k j (r g) v))
+        (λ j v. byte-same p (home l proper p (c 13) (c 22)) j (omega arith) (λ g. none-passes (λ i. holds b (p + i)) k j (r g) v))
     value-same (Write p k v) z r = refl
     value-same (Left p) z r = refl
     value-same (Copy p q n) z r = refl
     value-same (Fill p v n) z r = refl
 
     -- the bytes that it stores, at places outside b or once b was given back
-    bytes-same : (c : Call) (z : first (rules m c w) ≡ 0) → Quiet c → (j : ℕ) → j < storeOf c z .count
+    bytes-same : (c : Call) (z : first (rules c w) ≡ 0) → Quiet c → (j : ℕ) → j < storeOf c z .count
         → (given ≡ false → holds b (base + (storeOf c z .at + j)) ≡ false)
         → getD (storeOf c z .bytes a) j 0 ≡ getD (storeOf c z .bytes a′) j 0
     unfolding rules argumentRules stateRules value store
@@ -183,9 +169,9 @@ module _ (m : ℕ) (big : slotOrder ≤ m) (l : Ledger) (proper : Proper slotOrd
     bytes-same (Write p i x) z r j v k = refl
     bytes-same (Left p) z r j v k = refl
     bytes-same (Copy p q n) z r j v k =
-        let c = clear (rules m (Copy p q n) w) refl z in
-        let to = home m big l proper p (or-false-left _ _ (c 13)) (or-false-left _ _ (c 22)) in
-        let from = home m big l proper q (or-false-right (marked p) _ (c 13)) (or-false-right (dead w p) _ (c 22)) in
+        let c = clear (rules (Copy p q n) w) refl z in
+        let to = home l proper p (or-false-left _ _ (c 13)) (or-false-left _ _ (c 22)) in
+        let from = home l proper q (or-false-right (marked p) _ (c 13)) (or-false-right (dead w p) _ (c 22)) in
         let at : base + (p - base + j) ≡ p + j = omega (arith, to .above, to .low) in
         let taken : (x : List ℕ) → _ = λ x. getD-take (copyCount w p q n) (drop (q - base) x) j 0 v ∙ getD-drop (q - base) x j 0 in
         taken a
@@ -196,7 +182,7 @@ module _ (m : ℕ) (big : slotOrder ≤ m) (l : Ledger) (proper : Proper slotOrd
         ∙ sym (taken a′)
     bytes-same (Fill p x n) z r j v k = refl
 
-    outside-next : (c : Call) → first (rules m c w) ≡ 0 → Quiet c → EqualOutside b (stored m c w a) (stored m c w a′)
+    outside-next : (c : Call) → first (rules c w) ≡ 0 → Quiet c → EqualOutside b (stored c w a) (stored c w a′)
     outside-next c z r =
         let s = storeOf c z in
         record {
@@ -205,19 +191,19 @@ module _ (m : ℕ) (big : slotOrder ≤ m) (l : Ledger) (proper : Proper slotOrd
               stored-same s a a′ size size′ i (λ j v e. bytes-same c z r j v (λ g. ap (λ (x : ℕ). holds b (base + x)) e ∙ k)) (λ o. out .bytes i k);
         }
 
-    standing-next : (c : Call) → first (rules m c w) ≡ 0 → Quiet c
-        → Standing (given || givesBack (b .start) c (accepted (value m c w a))) b (referentOf (kept m c w bs)) (stored m c w a) (stored m c w a′)
-    standing-next c z r = go given refl known (gives c (b .start)) refl
+    standing-next : (c : Call) → first (rules c w) ≡ 0 → Quiet c
+        → Standing (given || givesBack (b .start) c (accepted (value c w a))) b (referentOf (kept (changeOf c) w bs)) (stored c w a) (stored c w a′)
+    standing-next c z r = go given refl known (gives (changeOf c) (b .start)) refl
       where
         -- the number of an accepted give is 0, which leaves `&& true` of `givesBack`
-        go : (g : Bool) → given ≡ g → Standing g b (referentOf bs) a a′ → (u : Bool) → gives c (b .start) ≡ u
-            → Standing (g || u && true) b (referentOf (kept m c w bs)) (stored m c w a) (stored m c w a′)
+        go : (g : Bool) → given ≡ g → Standing g b (referentOf bs) a a′ → (u : Bool) → gives (changeOf c) (b .start) ≡ u
+            → Standing (g || u && true) b (referentOf (kept (changeOf c) w bs)) (stored c w a) (stored c w a′)
         go true e s u x =
             λ i k.
             stored-same (storeOf c z) a a′ size size′ i
-            (λ j v y. bytes-same c z r j v (λ f. absurd (true≢false (sym e ∙ f)))) (λ o. s i (kept-live c z i o k))
-        go false e s false x = kept-found c (b .start) (b .order) x s
-        go false e s true x = λ i k. outside-next c z r .bytes i (given-back c (b .start) (b .order) x s (base + i) k)
+            (λ j v y. bytes-same c z r j v (λ f. absurd (true≢false (sym e ∙ f)))) (λ o. s i (kept-live (changing c) z i o k))
+        go false e s false x = kept-found (changeOf c) (b .start) (b .order) x s
+        go false e s true x = λ i k. outside-next c z r .bytes i (given-back (changeOf c) (b .start) (b .order) x s (base + i) k)
 
-    pub on-both : (c : Call) → first (rules m c w) ≡ 0 → Quiet c → OnBoth m c l b a a′ given
+    pub on-both : (c : Call) → first (rules c w) ≡ 0 → Quiet c → OnBoth c w bs b a a′ given
     on-both c z r = record { values = value-same c z r; outside = outside-next c z r; standing = standing-next c z r }

@@ -11,7 +11,6 @@ pub mod Checking
 pub mod Room
 pub mod Demand3
 pub mod Encoding
-pub mod Answers
 pub mod Replaying
 pub mod Soundness
 pub mod Hiding

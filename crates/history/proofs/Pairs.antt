@@ -29,7 +29,8 @@ member-aligned {t} {m} (more a d p) b (List·Memᴰ·head e) = subst (Aligned t 
 member-aligned (more a d p) b (List·Memᴰ·tail i) = member-aligned p b i
 
 -- a block that stands before c in the list holds none of c's addresses
-before-apart : {bs : List Block} {b c x : Block} (q : ℕ) → ((r : ℕ) → holds x r ≡ true → referentOf bs r ≡ Missing) → b ≡ x → List·Memᴰ c bs → holds b q ≡ true → holds c q ≡ true → ⊥
+before-apart : {bs : List Block} {b c x : Block} (q : ℕ) → ((r : ℕ) → holds x r ≡ true → referentOf bs r ≡ Missing)
+    → b ≡ x → List·Memᴰ c bs → holds b q ≡ true → holds c q ≡ true → ⊥
 before-apart {bs} {b} {c} q d e i h k = false≢true (sym (missing-none bs q (d q (subst (λ (y : Block). holds y q ≡ true) e h)) c i) ∙ k)
 
 apart : {t m : ℕ} {bs : List Block} → Proper t m bs → (b c : Block) → List·Memᴰ b bs → List·Memᴰ c bs → (q : ℕ) → holds b q ≡ true → holds c q ≡ true → b ≡ c
@@ -42,7 +43,8 @@ pub proper-set : {t m : ℕ} {bs : List Block} → Proper t m bs → BlockSet t 
 proper-set p = record { aligned = member-aligned p; apart = apart p }
 
 -- each address of the block found has it for its referent
-pub whole : {t m : ℕ} {bs : List Block} → Proper t m bs → (s e q : ℕ) → referentOf bs q ≡ Found s e → (r : ℕ) → holds (block s e) r ≡ true → referentOf bs r ≡ Found s e
+pub whole : {t m : ℕ} {bs : List Block} → Proper t m bs → (s e q : ℕ) → referentOf bs q ≡ Found s e → (r : ℕ) → holds (block s e) r ≡ true
+    → referentOf bs r ≡ Found s e
 whole {t} {m} {bs} p s e q h r i = member-found t m bs (proper-set p) (block s e) r (found-member bs q s e h .mem) i
 
 -- ---- free slots
@@ -56,7 +58,8 @@ abbrev pub unheld : ℕ → List Block → ℕ → Bool
 unheld t bs i = missing (referentOf bs (base + i * 2 ^ t))
 
 -- where each slot of a block is free, no address of it has a referent
-pub free-slots : {t m : ℕ} {bs : List Block} → Proper t m bs → (b : Block) (z : Slots t m b) → ((i : ℕ) → i < 2 ^ (b .order - t) → unheld t bs (z .first + i) ≡ true)
+pub free-slots : {t m : ℕ} {bs : List Block} → Proper t m bs → (b : Block) (z : Slots t m b)
+    → ((i : ℕ) → i < 2 ^ (b .order - t) → unheld t bs (z .first + i) ≡ true)
     → (q : ℕ) → holds b q ≡ true → referentOf bs q ≡ Missing
 free-slots {t} {m} {bs} p b z f q h =
     let s = held-slots t m b z q h in
@@ -71,7 +74,8 @@ unfolding referentOf without
 without-none none p q h = refl
 without-none (more {b} {bs} a d r) p q h = go (without-none r p q) (eqb (b .start) p) (holds b q) refl h
   where
-    go : (referentOf bs q ≡ Missing → referentOf (without p bs) q ≡ Missing) → (u v : Bool) → holds b q ≡ v → cond v (Found (b .start) (b .order)) (referentOf bs q) ≡ Missing
+    go : (referentOf bs q ≡ Missing → referentOf (without p bs) q ≡ Missing) → (u v : Bool) → holds b q ≡ v
+        → cond v (Found (b .start) (b .order)) (referentOf bs q) ≡ Missing
         → referentOf (cond u (without p bs) (b ∷ without p bs)) q ≡ Missing
     go ih u true w k = found-not-missing k refl
     go ih true false w k = ih k
@@ -82,7 +86,8 @@ unfolding referentOf without
 without-in none p e q h = refl
 without-in (more {b} {bs} a d r) p e q h = go (without-in r p e q) (eqb (b .start) p) (holds b q) refl refl h
   where
-    go : (referentOf bs q ≡ Found p e → referentOf (without p bs) q ≡ Missing) → (u v : Bool) → eqb (b .start) p ≡ u → holds b q ≡ v → cond v (Found (b .start) (b .order)) (referentOf bs q) ≡ Found p e
+    go : (referentOf bs q ≡ Found p e → referentOf (without p bs) q ≡ Missing) → (u v : Bool) → eqb (b .start) p ≡ u → holds b q ≡ v
+        → cond v (Found (b .start) (b .order)) (referentOf bs q) ≡ Found p e
         → referentOf (cond u (without p bs) (b ∷ without p bs)) q ≡ Missing
     go ih true true x w k = without-none r p q (d q w)
     go ih false true x w k = let z : b .start ≡ p = cc in absurd (eqb-false (b .start) p x z)
@@ -98,12 +103,14 @@ without-live {bs = bs} r p q k = go (referentOf bs q) refl
     go (Found s e) h = refl
 
 -- an address that no block which starts at p holds
-pub without-out : {t m : ℕ} {bs : List Block} → Proper t m bs → (p q : ℕ) → ((e : ℕ) → referentOf bs q ≡ Found p e → ⊥) → referentOf (without p bs) q ≡ referentOf bs q
+pub without-out : {t m : ℕ} {bs : List Block} → Proper t m bs → (p q : ℕ) → ((e : ℕ) → referentOf bs q ≡ Found p e → ⊥)
+    → referentOf (without p bs) q ≡ referentOf bs q
 unfolding referentOf without
 without-out none p q h = refl
 without-out (more {b} {bs} a d r) p q h = go (without-out r p q) (eqb (b .start) p) (holds b q) refl refl h
   where
-    go : (((e : ℕ) → referentOf bs q ≡ Found p e → ⊥) → referentOf (without p bs) q ≡ referentOf bs q) → (u v : Bool) → eqb (b .start) p ≡ u → holds b q ≡ v
+    go : (((e : ℕ) → referentOf bs q ≡ Found p e → ⊥) → referentOf (without p bs) q ≡ referentOf bs q) → (u v : Bool)
+        → eqb (b .start) p ≡ u → holds b q ≡ v
         → ((e : ℕ) → cond v (Found (b .start) (b .order)) (referentOf bs q) ≡ Found p e → ⊥)
         → referentOf (cond u (without p bs) (b ∷ without p bs)) q ≡ cond v (Found (b .start) (b .order)) (referentOf bs q)
     go ih true true x w k = absurd (k (b .order) (ap (λ (n : ℕ). Found n (b .order)) (eqb-true (b .start) p x)))
@@ -122,7 +129,8 @@ without-proper {t} {m} p (more {b} {bs} a d r) = go (without-proper p r) (eqb (b
 
 -- ---- a pair added at the end
 
-pub added-in : (bs : List Block) (c : Block) (q : ℕ) → referentOf bs q ≡ Missing → holds c q ≡ true → referentOf (bs ++ (c ∷ [])) q ≡ Found (c .start) (c .order)
+pub added-in : (bs : List Block) (c : Block) (q : ℕ) → referentOf bs q ≡ Missing → holds c q ≡ true
+    → referentOf (bs ++ (c ∷ [])) q ≡ Found (c .start) (c .order)
 unfolding referentOf
 added-in [] c q n h = rw h
 added-in (b ∷ bs) c q n h = go (holds b q) refl n (added-in bs c q)
@@ -150,7 +158,8 @@ unfolding referentOf
 added-out [] c q h = rw h
 added-out (b ∷ bs) c q h = rw (added-out bs c q h)
 
-pub added-proper : {t m : ℕ} {bs : List Block} (c : Block) → Proper t m bs → Aligned t m c → ((q : ℕ) → holds c q ≡ true → referentOf bs q ≡ Missing) → Proper t m (bs ++ (c ∷ []))
+pub added-proper : {t m : ℕ} {bs : List Block} (c : Block) → Proper t m bs → Aligned t m c
+    → ((q : ℕ) → holds c q ≡ true → referentOf bs q ≡ Missing) → Proper t m (bs ++ (c ∷ []))
 unfolding referentOf
 added-proper c none a f = more a (λ q h. refl) none
 added-proper {t} {m} c (more {b} {bs} x d p) a f =

@@ -12,7 +12,6 @@ use lib.Seq.{take-at, getD-at}
 use borrow.Author.Tests.{not-true, eqb-false, ne-eqb, ltb-false, le-ltb}
 use Rattle.common.specs.Refusals.{Refusal, _when_, first}
 use Rattle.blocks.specs.Blocks.{base, Block, holds, Aligned, missing}
-use Rattle.blocks.specs.Orders.{neededOrder}
 use Rattle.blocks.specs.Placing.{allFree, rangeStart, freeRange, placeIn}
 use Rattle.blocks.specs.declared.Place.{Place}
 use Rattle.blocks.specs.declared.Place.the-variants.{At, Nothing}
@@ -22,17 +21,17 @@ use Rattle.blocks.proofs.Places.{place-complete}
 use Rattle.blocks.proofs.Runs.{at-all}
 use Rattle.blocks.proofs.Sets.{missing-none, none-missing}
 use Rattle.blocks.proofs.Slots.{slot-start, Slots, slots-of, slots-held}
-use Rattle.heap.specs.Views.{slotOrder, placeFor, noPlace}
+use Rattle.heap.specs.Views.{View, neededFor, placeFor, noPlace}
 use Rattle.heap.specs.Rules.{rules, argumentRules, stateRules}
 use Rattle.heap.specs.Effects.{settled, Outcome}
-use Rattle.heap.specs.Heaps.{Heap}
+use Rattle.heap.specs.Changes.{changeOf}
 use Rattle.heap.specs.declared.Answer.{Answer}
 use Rattle.heap.specs.declared.Call.{Call}
 use Rattle.heap.specs.declared.Call.the-variants.{Get, Give, Step, Read, Write, Left, Copy, Fill}
 use Rattle.history.specs.Ledgers.{Ledger, ledgerView, ledgerStep, emptyLedger}
-use Rattle.history.specs.Runs.{run, ledgerRun}
+use Rattle.history.specs.Runs.{Run, run}
 use Rattle.history.specs.Histories.{liveBy, FreeRange, Starved, StarvedGet}
-use Rattle.history.proofs.Agreement.{Agree}
+use Rattle.history.proofs.Agreement.{Proper, Orders}
 use Rattle.history.proofs.Live.{lives}
 use Rattle.history.proofs.Pairs.{unheld}
 use Rattle.history.proofs.Gets.{got, got-placed}
@@ -64,12 +63,12 @@ module _ (t m : ℕ) (bs : List Block) where
 
 -- ---- the range that a get takes
 
-module _ (m : ℕ) (five : 5 ≤ m) (h : Heap) (l : Ledger) (agree : Agree m h l) (n : ℕ) where
-  -- the block that an accepted get adds was free
-  got-free : first (rules m (Get n) (ledgerView l)) ≡ 0 → FreeRange m (l .pairs) (got m l n)
-  got-free e =
-      let p = got-placed m (omega arith) l (agree .proper) n e in
-      record { aligned = p .aligned; unshared = λ b i q h k. false≢true (sym (missing-none (l .pairs) q (p .free q k) b i) ∙ h) }
+-- the block that an accepted get adds was free
+got-free : {t m : ℕ} → Orders t m → (l : Ledger) → Proper t m (l .pairs) → (n : ℕ) → first (rules (Get n) (ledgerView t m l)) ≡ 0
+    → FreeRange t m (l .pairs) (got t m l n)
+got-free os l proper n e =
+    let p = got-placed os l proper n e in
+    record { aligned = p .aligned; unshared = λ b i q h k. false≢true (sym (missing-none (l .pairs) q (p .free q k) b i) ∙ h) }
 
 -- ---- the number 21
 
@@ -92,20 +91,24 @@ settled-number zero old v new = refl
 settled-number (suc n) old v new = refl
 
 -- the number that a call answers is the first of its refusals
-number-is : (m : ℕ) (c : Call) (l : Ledger) → ledgerStep m c l .answer .number ≡ first (rules m c (ledgerView l))
+number-is : (t m : ℕ) (c : Call) (l : Ledger) → ledgerStep t m c l .answer .number ≡ first (rules c (ledgerView t m l))
 unfolding ledgerStep
-number-is m c l = settled-number (first (rules m c (ledgerView l))) l _ _
+number-is t m c l = settled-number (first (rules c (ledgerView t m l))) l _ _
 
-module _ (m : ℕ) (five : 5 ≤ m) (h : Heap) (l : Ledger) (agree : Agree m h l) where
-  -- 21 by the rules
-  abbrev full : Call → Type 0
-  full c = first (rules m c (ledgerView l)) ≡ 21
+-- the number n is 21 for exactly a starved get
+abbrev Tells : (t m : ℕ) → List Block → Call → ℕ → Type 0
+Tells t m live c n = let starved = StarvedGet t m live (changeOf c) in (n ≡ 21 → starved) × (starved → n ≡ 21)
 
-  full-starved : (n : ℕ) → full (Get n) → Starved m (l .pairs) n
+module _ {t m : ℕ} (os : Orders t m) (l : Ledger) (proper : Proper t m (l .pairs)) where
+  abbrev w : View
+  w = ledgerView t m l
+
+  full-starved : (n : ℕ) → first (rules (Get n) w) ≡ 21 → Starved t m (l .pairs) n
   unfolding rules argumentRules stateRules
-  full-starved n e = go (eqb n 0 || ltb (2 ^ m) n) refl (placeFor m n (ledgerView l)) refl e
+  full-starved n e = go (eqb n 0 || ltb (2 ^ m) n) refl (placeFor n w) refl e
     where
-      go : (u : Bool) → eqb n 0 || ltb (2 ^ m) n ≡ u → (x : Place) → placeFor m n (ledgerView l) ≡ x → cond {A = ℕ} u 10 (cond {A = ℕ} (noPlace x) 21 0) ≡ 21 → Starved m (l .pairs) n
+      go : (u : Bool) → eqb n 0 || ltb (2 ^ m) n ≡ u → (x : Place) → placeFor n w ≡ x → cond {A = ℕ} u 10 (cond {A = ℕ} (noPlace x) 21 0) ≡ 21
+          → Starved t m (l .pairs) n
       go true a x b q = absurd (omega arith)
       go false a (At s k) b q = absurd (omega arith)
       go false a Nothing b q =
@@ -113,33 +116,32 @@ module _ (m : ℕ) (five : 5 ≤ m) (h : Heap) (l : Ledger) (agree : Agree m h l
           record {
             some = omega arith;
             fits = ltb-false (2 ^ m) n (or-false-right (eqb n 0) _ a);
-            none = λ r f. unplaced slotOrder m (l .pairs) (neededOrder slotOrder m n) b r (f .aligned) (f .unshared);
+            none = λ r f. unplaced t m (l .pairs) (neededFor n w) b r (f .aligned) (f .unshared);
           }
 
-  starved-full : (n : ℕ) → Starved m (l .pairs) n → full (Get n)
+  starved-full : (n : ℕ) → Starved t m (l .pairs) n → first (rules (Get n) w) ≡ 21
   unfolding rules argumentRules stateRules
-  starved-full n s = go (noPlace (placeFor m n (ledgerView l))) (rw (ne-eqb n 0 (λ e. omega (arith, s .some)), le-ltb (2 ^ m) n (s .fits)))
+  starved-full n s = go (noPlace (placeFor n w)) (rw (ne-eqb n 0 (λ e. omega (arith, s .some)), le-ltb (2 ^ m) n (s .fits)))
     where
-      go : (u : Bool) → first (rules m (Get n) (ledgerView l)) ≡ cond {A = ℕ} u 21 0 → full (Get n)
+      go : (u : Bool) → first (rules (Get n) w) ≡ cond {A = ℕ} u 21 0 → first (rules (Get n) w) ≡ 21
       go true e = e
-      go false e = absurd (s .none _ (got-free m five h l agree n e) (le-refl _))
+      go false e = absurd (s .none _ (got-free os l proper n e) (le-refl _))
 
-  starved-by-rules : (c : Call) → (full c → StarvedGet m (l .pairs) c) × (StarvedGet m (l .pairs) c → full c)
+  -- by the rules of each call
+  starved-by-rules : (c : Call) → Tells t m (l .pairs) c (first (rules c w))
   unfolding rules argumentRules stateRules lacks
   starved-by-rules (Get n) = (full-starved n, starved-full n)
-  starved-by-rules (Give p) = (not-given 20 (rules m (Give p) (ledgerView l)) refl, λ x. absurd x)
-  starved-by-rules (Step p i) = (not-given 20 (rules m (Step p i) (ledgerView l)) refl, λ x. absurd x)
-  starved-by-rules (Read p k) = (not-given 20 (rules m (Read p k) (ledgerView l)) refl, λ x. absurd x)
-  starved-by-rules (Write p k v) = (not-given 20 (rules m (Write p k v) (ledgerView l)) refl, λ x. absurd x)
-  starved-by-rules (Left p) = (not-given 20 (rules m (Left p) (ledgerView l)) refl, λ x. absurd x)
-  starved-by-rules (Copy p q n) = (not-given 20 (rules m (Copy p q n) (ledgerView l)) refl, λ x. absurd x)
-  starved-by-rules (Fill p v n) = (not-given 20 (rules m (Fill p v n) (ledgerView l)) refl, λ x. absurd x)
+  starved-by-rules (Give p) = (not-given 20 (rules (Give p) w) refl, λ x. absurd x)
+  starved-by-rules (Step p i) = (not-given 20 (rules (Step p i) w) refl, λ x. absurd x)
+  starved-by-rules (Read p k) = (not-given 20 (rules (Read p k) w) refl, λ x. absurd x)
+  starved-by-rules (Write p k v) = (not-given 20 (rules (Write p k v) w) refl, λ x. absurd x)
+  starved-by-rules (Left p) = (not-given 20 (rules (Left p) w) refl, λ x. absurd x)
+  starved-by-rules (Copy p q n) = (not-given 20 (rules (Copy p q n) w) refl, λ x. absurd x)
+  starved-by-rules (Fill p v n) = (not-given 20 (rules (Fill p v n) w) refl, λ x. absurd x)
 
   -- 21 is the answer of exactly the starved gets
-  pub starved-number : (c : Call) → (ledgerStep m c l .answer .number ≡ 21 → StarvedGet m (l .pairs) c) × (StarvedGet m (l .pairs) c → ledgerStep m c l .answer .number ≡ 21)
-  starved-number c =
-      let (there, back) = starved-by-rules c in
-      (λ e. there (sym (number-is m c l) ∙ e), λ s. number-is m c l ∙ back s)
+  starved-number : (c : Call) → Tells t m (l .pairs) c (ledgerStep t m c l .answer .number)
+  starved-number c = subst (Tells t m (l .pairs) c) (sym (number-is t m c l)) (starved-by-rules c)
 
 -- ---- over a list of calls
 
@@ -169,16 +171,17 @@ module _ {S : Type 0} (step : Call → S → Outcome S) where
         sym (getD-at xs x ys x _ refl) ∙ ap (λ (zs : List Answer). getD zs (length xs) x) (sym parts)
         ∙ getD-at (run step before s .answers) _ (run step later (step c (run step before s .last) .state) .answers) x _ (length-answers before s ∙ sym place)
 
--- the answer x is 21 for exactly a starved get
-abbrev Tells : ℕ → List Block → Call → Answer → Type 0
-Tells m live c x = (x .number ≡ 21 → StarvedGet m live c) × (StarvedGet m live c → x .number ≡ 21)
+-- the ledger's run
+abbrev ledgerOf : (t m : ℕ) → List Call → Run Ledger
+ledgerOf t m cs = run (ledgerStep t m) cs (emptyLedger m)
 
-pub room : (m : ℕ) → 5 ≤ m → (before later : List Call) (c : Call) (xs ys : List Answer) (x : Answer) → (h : Heap) → Agree m h (ledgerRun m before .last)
-    → ledgerRun m (before ++ (c ∷ later)) .answers ≡ xs ++ (x ∷ ys) → length xs ≡ length before
-    → (x .number ≡ 21 → StarvedGet m (liveBy m before xs) c) × (StarvedGet m (liveBy m before xs) c → x .number ≡ 21)
-room m five before later c xs ys x h agree split place =
-    let l = ledgerRun m before .last in
-    let own : x ≡ ledgerStep m c l .answer = answer-at (ledgerStep m) (emptyLedger m) before later c xs ys x split place in
-    let live : liveBy m before xs ≡ l .pairs = ap (liveBy m before) (answers-before (ledgerStep m) (emptyLedger m) before later c xs ys x split place) ∙ lives m before in
-    subst (λ (y : Answer). Tells m (liveBy m before xs) c y) (sym own)
-    (subst (λ (bs : List Block). Tells m bs c (ledgerStep m c l .answer)) (sym live) (starved-number m five h l agree c))
+pub room : {t m : ℕ} → Orders t m → (before later : List Call) (c : Call) (xs ys : List Answer) (x : Answer)
+    → Proper t m (ledgerOf t m before .last .pairs) → ledgerOf t m (before ++ (c ∷ later)) .answers ≡ xs ++ (x ∷ ys) → length xs ≡ length before
+    → Tells t m (liveBy t m before xs) c (x .number)
+room {t} {m} os before later c xs ys x proper split place =
+    let l : Ledger = ledgerOf t m before .last in
+    let own : x ≡ ledgerStep t m c l .answer = answer-at (ledgerStep t m) (emptyLedger m) before later c xs ys x split place in
+    let told : xs ≡ ledgerOf t m before .answers = answers-before (ledgerStep t m) (emptyLedger m) before later c xs ys x split place in
+    let live : liveBy t m before xs ≡ l .pairs = ap (liveBy t m before) told ∙ lives t m before in
+    subst (λ (y : Answer). Tells t m (liveBy t m before xs) c (y .number)) (sym own)
+    (subst (λ (bs : List Block). Tells t m bs c (ledgerStep t m c l .answer .number)) (sym live) (starved-number os l proper c))

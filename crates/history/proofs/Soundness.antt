@@ -1,6 +1,6 @@
 -- Every sound heap, whatever made it, agrees with a ledger: the pairs are the blocks that its table reads back as, the bytes its arena.
 -- So a call leaves a sound heap sound.
-use Prim.Native.Nat.{ℕ, suc, _+_, _*_, _%_, _^_, _-_, _≤_}
+use Prim.Native.Nat.{ℕ, suc, _+_, _*_, _%_, _^_, _-_}
 use mathlib.Core.Path.{_≡_, refl, _∙_, ap}
 use mathlib.Core.Bool.{Bool, true, false, not, cond, _&&_}
 use mathlib.Core.List.{List, [], _∷_, List·Memᴰ, List·Memᴰ·head, List·Memᴰ·tail}
@@ -16,13 +16,14 @@ use Rattle.blocks.proofs.Reading.{read-out}
 use Rattle.blocks.proofs.Sets.{none-missing}
 use Rattle.blocks.proofs.Slots.{block}
 use Rattle.heap.specs.Views.{slotOrder}
-use Rattle.heap.specs.Heaps.{Heap, heapView, heapCall, freshHeap}
+use Rattle.heap.specs.Heaps.{Heap, heapView, heapStep, heapCall, freshIn}
 use Rattle.heap.specs.Judging.{Sound}
 use Rattle.heap.specs.declared.Call.{Call}
+use Rattle.heap.proofs.Judging.{sound-sized}
 use Rattle.history.specs.Ledgers.{Ledger, ledgerView, emptyLedger}
-use Rattle.history.proofs.Agreement.{Proper, none, more, Agree}
-use Rattle.history.proofs.Simulation.{view-same, agree-sound}
-use Rattle.history.proofs.Runs.{fresh-agree, call-same}
+use Rattle.history.proofs.Agreement.{Proper, none, more, Orders, Agree}
+use Rattle.history.proofs.Simulation.{view-same, agree-sound, step-same}
+use Rattle.history.proofs.Runs.{fresh-agree}
 
 -- the blocks read after slot i start past it
 read-later : (t i : ℕ) (s : List ℕ) (b c : Block) → b .start ≡ base + i * 2 ^ t → List·Memᴰ c (blocksFrom t (suc i) s) → b ≡ c → ⊥
@@ -58,30 +59,39 @@ reads-proper t m i (e ∷ s) set = go (not (eqb e 0) && eqb (i % 2 ^ (e - t)) 0)
         (ih (record { aligned = λ c j. set .aligned c (List·Memᴰ·tail j); apart = λ c d i j. set .apart c d (List·Memᴰ·tail i) (List·Memᴰ·tail j) }))
     go false set ih = ih set
 
--- what a heap reads back as
-abbrev pub readLedger : Heap → Ledger
-readLedger h = record { pairs = blocksOf slotOrder (h .table); bytes = h .arena }
+-- what a heap reads back as, in slots of 2 ^ t bytes
+abbrev pub readLedger : ℕ → Heap → Ledger
+readLedger t h = record { pairs = blocksOf t (h .table); bytes = h .arena }
 
-abbrev pub SoundHeap : ℕ → Heap → Type 0
-SoundHeap m h = Sound m (h .arena) (h .table)
+abbrev pub SoundHeap : (t m : ℕ) → Heap → Type 0
+SoundHeap t m h = Sound t m (h .arena) (h .table)
 
-pub sound-agree : (m : ℕ) (h : Heap) → SoundHeap m h → Agree m h (readLedger h)
-sound-agree m h s =
-    let one = one-table slotOrder m (omega arith) (omega (arith, s .low)) in
-    record {
-      bytes = refl;
-      size = s .size;
-      table = one .is-table (h .table) (s .slots) (s .whole);
-      proper = reads-proper slotOrder m 0 (h .table) (one .is-set (h .table) (s .slots) (s .whole));
-    }
+module _ {t m : ℕ} (h : Heap) (s : SoundHeap t m h) where
+  pub sound-orders : Orders t m
+  sound-orders = record { slot-low = s .slot-low; slot-high = s .slot-high; low = s .low; high = s .high }
 
--- it looks to every rule as those pairs do
-pub sound-view : (m : ℕ) (h : Heap) → SoundHeap m h → heapView m h ≡ ledgerView (readLedger h)
-sound-view m h s = view-same m (s .low) (s .high) h (readLedger h) (sound-agree m h s)
+  pub sound-agree : Agree t m h (readLedger t h)
+  sound-agree =
+      let one = one-table t m (s .slot-low) (s .slot-high) in
+      record {
+        bytes = refl;
+        size = s .size;
+        table = one .is-table (h .table) (s .slots) (s .whole);
+        proper = reads-proper t m 0 (h .table) (one .is-set (h .table) (s .slots) (s .whole));
+      }
 
-pub fresh-sound : (m : ℕ) → 5 ≤ m → m ≤ 16 → SoundHeap m (freshHeap m)
-fresh-sound m five top = agree-sound m five top (freshHeap m) (emptyLedger m) (fresh-agree m)
+  -- it looks to every rule as those pairs do
+  pub sound-view : heapView t m h ≡ ledgerView t m (readLedger t h)
+  sound-view = view-same sound-orders h (readLedger t h) sound-agree
 
--- any call, refused or not
-pub call-sound : (m : ℕ) (h : Heap) → SoundHeap m h → (c : Call) → SoundHeap m (heapCall c h .state)
-call-sound m h s c = agree-sound m (s .low) (s .high) _ _ (call-same m (s .low) (s .high) h (readLedger h) (sound-agree m h s) c .agree)
+  -- any call, refused or not
+  step-sound : (c : Call) → SoundHeap t m (heapStep t m c h .state)
+  step-sound c = agree-sound sound-orders _ _ (step-same sound-orders h (readLedger t h) sound-agree c .agree)
+
+pub fresh-sound : {t m : ℕ} → Orders t m → SoundHeap t m (freshIn t m)
+fresh-sound {t} {m} os = agree-sound os (freshIn t m) (emptyLedger m) (fresh-agree t m)
+
+-- a public call takes the order from the arena's length
+pub call-sound : (m : ℕ) (h : Heap) → SoundHeap slotOrder m h → (c : Call) → SoundHeap slotOrder m (heapCall c h .state)
+unfolding heapCall
+call-sound m h s c = rw (← sound-sized slotOrder (h .arena) (h .table) s .same) (step-sound h s c)

@@ -5,23 +5,22 @@ use mathlib.Core.Path.{_≡_, refl, sym, _∙_, ap, subst}
 use mathlib.Core.Bool.{Bool, true, false, not, _&&_, false≢true}
 use mathlib.Core.List.{List}
 use native.Mathlib.Omega.{arith}
-use lib.ListN.{length}
 use borrow.Author.Tests.{ltb-false}
 use Rattle.common.specs.Refusals.{first}
 use Rattle.blocks.specs.Blocks.{Block, holds}
 use Rattle.blocks.specs.Sets.{referentOf}
 use Rattle.blocks.specs.Tables.{referentIn}
 use Rattle.blocks.specs.Pointers.{marked}
-use Rattle.blocks.specs.Orders.{orderOf}
 use Rattle.blocks.specs.declared.Referent.the-variants.{Found}
 use Rattle.blocks.proofs.Booleans.{or-false-right, eqb-suc}
 use Rattle.blocks.proofs.Sets.{found-member}
 use Rattle.blocks.proofs.Slots.{block}
 use Rattle.blocks.proofs.Tables.{any-false}
-use Rattle.heap.specs.Views.{View, slotOrder}
+use Rattle.heap.specs.Views.{View, slotOrder, leftFrom}
 use Rattle.heap.specs.Rules.{rules, argumentRules, stateRules, dead}
-use Rattle.heap.specs.Effects.{leftFrom, copyCount, value, stored, settled}
-use Rattle.heap.specs.Heaps.{Heap, heapOf, viewOf, entered, heapStep, heapCall}
+use Rattle.heap.specs.Effects.{copyCount, value, stored, settled}
+use Rattle.heap.specs.Heaps.{Heap, heapOf, heapView, viewOf, entered, heapStep, heapCall}
+use Rattle.heap.specs.Changes.{changeOf}
 use Rattle.heap.specs.declared.Call.{Call}
 use Rattle.heap.specs.declared.Call.the-variants.{Get, Give, Step, Read, Write, Left, Copy, Fill}
 use Rattle.heap.proofs.Judging.{clear, accepted-ready}
@@ -43,13 +42,13 @@ refused-quiet b (Left p) n = refl
 refused-quiet b (Copy p q k) n = rw (eqb-suc n)
 refused-quiet b (Fill p v k) n = refl
 
-module _ (m : ℕ) (big : slotOrder ≤ m) (l : Ledger) (proper : Proper slotOrder m (l .pairs)) (b : Block)
+module _ {t m : ℕ} (l : Ledger) (proper : Proper t m (l .pairs)) (b : Block)
     (live : referentOf (l .pairs) (b .start) ≡ Found (b .start) (b .order)) where
   abbrev w : View
-  w = ledgerView l
+  w = ledgerView t m l
 
   -- no block but the referent of p holds the bytes from p to that block's end
-  elsewhere : (p : ℕ) → Home m big l proper p → holds b p ≡ false → (j : ℕ) → j < leftFrom w p → holds b (p + j) ≡ false
+  elsewhere : (p : ℕ) → Home l proper p → holds b p ≡ false → (j : ℕ) → j < leftFrom w p → holds b (p + j) ≡ false
   elsewhere p h n j v = go (holds b (p + j)) refl
     where
       c : Block
@@ -59,47 +58,48 @@ module _ (m : ℕ) (big : slotOrder ≤ m) (l : Ledger) (proper : Proper slotOrd
       go true k =
           let among = found-member (l .pairs) p (h .start) (h .order) (h .found) .mem in
           let b-among = found-member (l .pairs) (b .start) (b .start) (b .order) live .mem in
-          let one : c ≡ b = proper-set proper .apart c b among b-among (p + j) (home-holds m big l proper p h j v) k in
+          let one : c ≡ b = proper-set proper .apart c b among b-among (p + j) (home-holds l proper p h j v) k in
           absurd (false≢true (sym n ∙ subst (λ (d : Block). holds d p ≡ true) one (holds-by c p (h .low) (h .high))))
       go false k = refl
 
-  accepted-quiet : (c : Call) (a : List ℕ) → sourceIn b c ≡ false → first (rules m c w) ≡ 0 → reveals b c (accepted (value m c w a)) ≡ false
+  accepted-quiet : (c : Call) (a : List ℕ) → sourceIn b c ≡ false → first (rules c w) ≡ 0 → reveals b c (accepted (value c w a)) ≡ false
   unfolding rules argumentRules stateRules value
   accepted-quiet (Get n) a e z = refl
   accepted-quiet (Give p) a e z = refl
   accepted-quiet (Step p i) a e z = refl
   accepted-quiet (Read p k) a e z =
-      let c = clear (rules m (Read p k) w) refl z in
+      let c = clear (rules (Read p k) w) refl z in
       let wide : k ≤ leftFrom w p = ltb-false (leftFrom w p) k (c 25) in
-      any-false _ k (λ j v. elsewhere p (home m big l proper p (c 13) (c 22)) e j (omega arith))
+      any-false _ k (λ j v. elsewhere p (home l proper p (c 13) (c 22)) e j (omega arith))
   accepted-quiet (Write p k v) a e z = refl
   accepted-quiet (Left p) a e z = refl
   accepted-quiet (Copy p q n) a e z =
-      let c = clear (rules m (Copy p q n) w) refl z in
-      let from = home m big l proper q (or-false-right (marked p) _ (c 13)) (or-false-right (dead w p) _ (c 22)) in
+      let c = clear (rules (Copy p q n) w) refl z in
+      let from = home l proper q (or-false-right (marked p) _ (c 13)) (or-false-right (dead w p) _ (c 22)) in
       any-false _ (copyCount w p q n) (λ j v. ap (λ (u : Bool). u && not (holds b (p + j))) (elsewhere q from e j (omega arith)))
   accepted-quiet (Fill p v n) a e z = refl
 
-module _ (b : Block) (h : Heap) (live : referentIn slotOrder (h .table) (b .start) ≡ Found (b .start) (b .order)) (c : Call) where
-  abbrev m : ℕ
-  m = orderOf (length (h .arena))
+-- a sound heap's blocks are the pairs that its table reads back as
+sound-quiet : {t m : ℕ} (b : Block) (h : Heap) → referentIn t (h .table) (b .start) ≡ Found (b .start) (b .order) → (c : Call) → SoundHeap t m h
+    → sourceIn b c ≡ false → let w = heapView t m h in first (rules c w) ≡ 0 → reveals b c (accepted (value c w (h .arena))) ≡ false
+sound-quiet {t} b h live c s e =
+    let v = sound-view h s in
+    let found = sym (ap (λ (u : View). u .referent (b .start)) v) ∙ live in
+    subst (λ (u : View). first (rules c u) ≡ 0 → reveals b c (accepted (value c u (h .arena))) ≡ false) (sym v)
+    (accepted-quiet (readLedger t h) (sound-agree h s .proper) b found c (h .arena) e)
 
-  -- an accepted call's table is sound, and its blocks are the pairs that it reads back as
-  sound-quiet : SoundHeap m h → sourceIn b c ≡ false → first (rules m c (viewOf h)) ≡ 0
-      → reveals b c (accepted (value m c (viewOf h) (h .arena))) ≡ false
-  sound-quiet s e =
-      let v = sound-view m h s in
-      let found = sym (ap (λ (u : View). u .referent (b .start)) v) ∙ live in
-      subst (λ (u : View). first (rules m c u) ≡ 0 → reveals b c (accepted (value m c u (h .arena))) ≡ false) (sym v)
-      (accepted-quiet m (omega (arith, s .low)) (readLedger h) (sound-agree m h s .proper) b found c (h .arena) e)
+-- an accepted public call found the heap sound
+pub elsewhere-quiet : (b : Block) (h : Heap) → referentIn slotOrder (h .table) (b .start) ≡ Found (b .start) (b .order) → (c : Call)
+    → sourceIn b c ≡ false → reveals b c (heapCall c h .answer) ≡ false
+unfolding heapCall heapStep
+elsewhere-quiet b h live c e = go (first (rules c w)) refl
+  where
+    w : View
+    w = viewOf h
 
-  pub elsewhere-quiet : sourceIn b c ≡ false → reveals b c (heapCall c h .answer) ≡ false
-  unfolding heapCall heapStep
-  elsewhere-quiet e = go (first (rules m c (viewOf h))) refl
-    where
-      new : Heap
-      new = heapOf (stored m c (viewOf h) (h .arena)) (entered m c (viewOf h) (h .table))
+    new : Heap
+    new = heapOf (stored c w (h .arena)) (entered (changeOf c) w (h .table))
 
-      go : (n : ℕ) → first (rules m c (viewOf h)) ≡ n → reveals b c (settled n h (value m c (viewOf h) (h .arena)) new .answer) ≡ false
-      go zero z = sound-quiet (accepted-ready c (h .arena) (h .table) z .0 .sound) e z
-      go (suc n) z = refused-quiet b c n
+    go : (n : ℕ) → first (rules c w) ≡ n → reveals b c (settled n h (value c w (h .arena)) new .answer) ≡ false
+    go zero z = sound-quiet b h live c (accepted-ready c (h .arena) (h .table) z .0 .sound) e z
+    go (suc n) z = refused-quiet b c n

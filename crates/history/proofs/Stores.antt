@@ -13,45 +13,44 @@ use Rattle.common.proofs.Bytes.{over-none, length-over, length-bytesOf}
 use Rattle.blocks.specs.Blocks.{base, Block, holds, Aligned, missing, leftIn}
 use Rattle.blocks.specs.Sets.{referentOf}
 use Rattle.blocks.specs.Pointers.{marked, sought}
-use Rattle.blocks.specs.Orders.{neededOrder}
 use Rattle.blocks.specs.declared.Referent.{Referent}
 use Rattle.blocks.specs.declared.Referent.the-variants.{Missing, Found}
 use Rattle.blocks.proofs.Booleans.{or-false-left, or-false-right}
 use Rattle.blocks.proofs.Sets.{held-low, held-high, found-member, found-aligned}
 use Rattle.blocks.proofs.Slots.{block}
-use Rattle.heap.specs.Views.{View, slotOrder, referentOfPointer}
+use Rattle.heap.specs.Views.{View, referentOfPointer, leftFrom, neededFor, startFor}
 use Rattle.heap.specs.Rules.{rules, argumentRules, stateRules, dead}
-use Rattle.heap.specs.Effects.{leftFrom, copyCount, fillCount, stored}
+use Rattle.heap.specs.Effects.{copyCount, fillCount, stored}
 use Rattle.heap.specs.declared.Call.{Call}
 use Rattle.heap.specs.declared.Call.the-variants.{Get, Give, Step, Read, Write, Left, Copy, Fill}
 use Rattle.heap.proofs.Judging.{clear}
 use Rattle.history.specs.Ledgers.{Ledger, ledgerView}
-use Rattle.history.proofs.Agreement.{Proper}
-use Rattle.history.proofs.Gets.{got, got-placed}
+use Rattle.history.proofs.Agreement.{Proper, Orders}
+use Rattle.history.proofs.Gets.{got-placed}
 use Rattle.history.proofs.Pairs.{holds-by, proper-set}
 
 -- The bytes may depend on those before; their place and number do not.
-pub record Store (m : ℕ) (c : Call) (w : View) : Type 0 where
+pub record Store (c : Call) (w : View) : Type 0 where
   pub at : ℕ
   pub count : ℕ
-  pub fits : at + count ≤ 2 ^ m
+  pub fits : at + count ≤ 2 ^ w .order
   pub bytes : List ℕ → List ℕ
-  pub counted : (b : List ℕ) → length b ≡ 2 ^ m → length (bytes b) ≡ count
-  pub stores : (b : List ℕ) → stored m c w b ≡ over b at (bytes b)
+  pub counted : (b : List ℕ) → length b ≡ 2 ^ w .order → length (bytes b) ≡ count
+  pub stores : (b : List ℕ) → stored c w b ≡ over b at (bytes b)
 
-abbrev store-nothing : (m : ℕ) (c : Call) (w : View) → ((b : List ℕ) → stored m c w b ≡ b) → Store m c w
-store-nothing m c w e =
+abbrev store-nothing : (c : Call) (w : View) → ((b : List ℕ) → stored c w b ≡ b) → Store c w
+store-nothing c w e =
     record { at = 0; count = 0; fits = omega arith; bytes = λ b. []; counted = λ b l. refl; stores = λ b. e b ∙ sym (over-none b 0) }
 
-pub stored-length : {m : ℕ} {c : Call} {w : View} → Store m c w → (b : List ℕ) → length b ≡ 2 ^ m → length (stored m c w b) ≡ 2 ^ m
+pub stored-length : {c : Call} {w : View} → Store c w → (b : List ℕ) → length b ≡ 2 ^ w .order → length (stored c w b) ≡ 2 ^ w .order
 stored-length s b e = ap length (s .stores b) ∙ length-over b (s .at) (s .bytes b) (omega (arith, s .fits, s .counted b e)) ∙ e
 
-module _ (m : ℕ) (big : slotOrder ≤ m) (l : Ledger) (proper : Proper slotOrder m (l .pairs)) where
+module _ {t m : ℕ} (l : Ledger) (proper : Proper t m (l .pairs)) where
   abbrev bs : List Block
   bs = l .pairs
 
   abbrev w : View
-  w = ledgerView l
+  w = ledgerView t m l
 
   -- a plain pointer's referent is the pair that holds it
   pub plain : (p : ℕ) → marked p ≡ false → referentOf bs p ≡ referentOfPointer w p
@@ -75,7 +74,7 @@ module _ (m : ℕ) (big : slotOrder ≤ m) (l : Ledger) (proper : Proper slotOrd
       go : (x : Referent) → referentOf bs p ≡ x → missing x ≡ false → Home p
       go Missing q k = absurd (false≢true (sym k))
       go (Found s e) q k =
-          let a : Aligned slotOrder m (block s e) = found-aligned slotOrder m bs (proper-set proper) p s e q in
+          let a : Aligned t m (block s e) = found-aligned t m bs (proper-set proper) p s e q in
           let held = found-member bs p s e q .held in
           record {
             start = s;
@@ -95,54 +94,58 @@ module _ (m : ℕ) (big : slotOrder ≤ m) (l : Ledger) (proper : Proper slotOrd
   pub home-holds : (p : ℕ) (h : Home p) (j : ℕ) → j < leftFrom w p → holds (block (h .start) (h .order)) (p + j) ≡ true
   home-holds p h j v = holds-by (block (h .start) (h .order)) (p + j) (omega (arith, h .low)) (omega (arith, h .left))
 
-  unfoldable pub store : (c : Call) → first (rules m c w) ≡ 0 → Store m c w
+module _ {t m : ℕ} (os : Orders t m) (l : Ledger) (proper : Proper t m (l .pairs)) where
+  abbrev v : View
+  v = ledgerView t m l
+
+  unfoldable pub store : (c : Call) → first (rules c v) ≡ 0 → Store c v
   unfolding rules argumentRules stateRules stored copied
   store (Get n) z =
-      let a = got-placed m big l proper n z .aligned in
-      let size : ℕ = 2 ^ neededOrder slotOrder m n in
+      let a = got-placed os l proper n z .aligned in
+      let size : ℕ = 2 ^ neededFor n v in
       record {
-        at = got m l n .start - base;
+        at = startFor n v - base;
         count = size;
         fits = omega (arith, a .place, a .inside);
         bytes = λ b. replicate size 0;
         counted = λ b e. length-replicate size 0;
         stores = λ b. refl;
       }
-  store (Give p) z = store-nothing m (Give p) w (λ b. refl)
-  store (Step p i) z = store-nothing m (Step p i) w (λ b. refl)
-  store (Read p k) z = store-nothing m (Read p k) w (λ b. refl)
-  store (Write p k v) z =
-      let c = clear (rules m (Write p k v) w) refl z in
+  store (Give p) z = store-nothing (Give p) v (λ b. refl)
+  store (Step p i) z = store-nothing (Step p i) v (λ b. refl)
+  store (Read p k) z = store-nothing (Read p k) v (λ b. refl)
+  store (Write p k x) z =
+      let c = clear (rules (Write p k x) v) refl z in
       record {
         at = p - base;
         count = k;
-        fits = omega (arith, left-fits p (home p (c 13) (c 22)), ltb-false (leftFrom w p) k (c 25));
-        bytes = λ b. bytesOf k v;
-        counted = λ b e. length-bytesOf k v;
+        fits = omega (arith, left-fits l proper p (home l proper p (c 13) (c 22)), ltb-false (leftFrom v p) k (c 25));
+        bytes = λ b. bytesOf k x;
+        counted = λ b e. length-bytesOf k x;
         stores = λ b. refl;
       }
-  store (Left p) z = store-nothing m (Left p) w (λ b. refl)
+  store (Left p) z = store-nothing (Left p) v (λ b. refl)
   store (Copy p q n) z =
-      let c = clear (rules m (Copy p q n) w) refl z in
-      let k : ℕ = copyCount w p q n in
-      let to : (p - base) + leftFrom w p ≤ 2 ^ m = left-fits p (home p (or-false-left _ _ (c 13)) (or-false-left _ _ (c 22))) in
-      let from : (q - base) + leftFrom w q ≤ 2 ^ m = left-fits q (home q (or-false-right (marked p) _ (c 13)) (or-false-right (dead w p) _ (c 22))) in
+      let c = clear (rules (Copy p q n) v) refl z in
+      let k : ℕ = copyCount v p q n in
+      let to = left-fits l proper p (home l proper p (or-false-left _ _ (c 13)) (or-false-left _ _ (c 22))) in
+      let from = left-fits l proper q (home l proper q (or-false-right (marked p) _ (c 13)) (or-false-right (dead v p) _ (c 22))) in
       record {
         at = p - base;
         count = k;
-        fits = omega arith;
+        fits = omega (arith, to);
         bytes = λ b. take k (drop (q - base) b);
-        counted = λ b e. length-take-le k (drop (q - base) b) (omega (arith, length-drop (q - base) b));
+        counted = λ b e. length-take-le k (drop (q - base) b) (omega (arith, from, length-drop (q - base) b));
         stores = λ b. refl;
       }
-  store (Fill p v n) z =
-      let c = clear (rules m (Fill p v n) w) refl z in
-      let k : ℕ = fillCount w p n in
+  store (Fill p x n) z =
+      let c = clear (rules (Fill p x n) v) refl z in
+      let k : ℕ = fillCount v p n in
       record {
         at = p - base;
         count = k;
-        fits = omega (arith, left-fits p (home p (c 13) (c 22)));
-        bytes = λ b. replicate k v;
-        counted = λ b e. length-replicate k v;
+        fits = omega (arith, left-fits l proper p (home l proper p (c 13) (c 22)));
+        bytes = λ b. replicate k x;
+        counted = λ b e. length-replicate k x;
         stores = λ b. refl;
       }

@@ -51,7 +51,8 @@ module _ (t m : ℕ) (one : 1 ≤ t) (le : t ≤ m) (bs cs : List Block) (old : 
       kept : (n : holds b (base + i * 2 ^ t) ≡ false) → getD (tableOf t m bs) i 0 ≡ orderIn (referentOf cs (base + i * 2 ^ t))
       kept n = table-entry t m one le bs old i ∙ ap orderIn (sym (others (base + i * 2 ^ t) n))
 
-      go : (u v : Bool) → ltb i (z .first) ≡ u → ltb i (z .first + 2 ^ (b .order - t)) ≡ v → getD (over (tableOf t m bs) (z .first) xs) i 0 ≡ orderIn (referentOf cs (base + i * 2 ^ t))
+      go : (u v : Bool) → ltb i (z .first) ≡ u → ltb i (z .first + 2 ^ (b .order - t)) ≡ v
+          → getD (over (tableOf t m bs) (z .first) xs) i 0 ≡ orderIn (referentOf cs (base + i * 2 ^ t))
       go true v p q =
           let lo : i < z .first = ltb-true _ _ p in
           over-before (tableOf t m bs) (z .first) xs fits i lo ∙ kept (untaken i (λ c d. omega arith))
@@ -59,7 +60,8 @@ module _ (t m : ℕ) (one : 1 ≤ t) (le : t ≤ m) (bs cs : List Block) (old : 
           let lo : z .first ≤ i = ltb-false _ _ p in
           let hi : i < z .first + 2 ^ (b .order - t) = ltb-true _ _ q in
           let at : z .first + (i - z .first) ≡ i = omega arith in
-          subst (λ (k : ℕ). getD (over (tableOf t m bs) (z .first) xs) k 0 ≡ getD xs (i - z .first) 0) at (over-in (tableOf t m bs) (z .first) xs fits (i - z .first) (omega (arith, len-xs)))
+          subst (λ (k : ℕ). getD (over (tableOf t m bs) (z .first) xs) k 0 ≡ getD xs (i - z .first) 0) at
+          (over-in (tableOf t m bs) (z .first) xs fits (i - z .first) (omega (arith, len-xs)))
           ∙ (getD-replicate (2 ^ (b .order - t)) (i - z .first) x 0 (omega arith) ∙ sym (inside (base + i * 2 ^ t) (taken i lo hi)))
       go false false p q =
           let hi : z .first + 2 ^ (b .order - t) ≤ i = ltb-false _ _ q in

@@ -11,6 +11,7 @@ use Rattle.blocks.specs.Pointers.{markBit, exactSum, within, inReach}
 use Rattle.blocks.specs.declared.Referent.the-variants.{Found}
 use Rattle.heap.specs.Views.{slotOrder}
 use Rattle.heap.specs.Heaps.{Heap, heapCall, heapFresh, freshHeap, heapCheck, bit}
+use Rattle.heap.specs.Changes.{changeOf}
 use Rattle.heap.specs.declared.Answer.{Answer}
 use Rattle.heap.specs.declared.Call.{Call}
 use Rattle.heap.specs.declared.Call.the-variants.{Step}
@@ -32,11 +33,12 @@ abbrev pub after : ℕ → List Call → Heap
 after m cs = heapRun m cs .last
 
 abbrev pub live : ℕ → List Call → List Block
-live m cs = liveBy m cs (answersOf m cs)
+live m cs = liveBy slotOrder m cs (answersOf m cs)
 
 pub record Demand3 (m : ℕ) (cs : List Call) : Type 0 where
   -- the list starts from the two buffers as fresh leaves them, whatever they held
-  pub start : (h : Heap) → length (h .arena) ≡ 2 ^ m → length (h .table) ≡ 2 ^ (m - slotOrder) → heapFresh h ≡ record { answer = accepted 0; state = freshHeap m }
+  pub start : (h : Heap) → length (h .arena) ≡ 2 ^ m → length (h .table) ≡ 2 ^ (m - slotOrder)
+      → heapFresh h ≡ record { answer = accepted 0; state = freshHeap m }
   -- all numbers and values, in the calls' order, and all arena bytes equal the ledger's
   pub answers : answersOf m cs ≡ ledgerRun m cs .answers
   pub bytes : after m cs .arena ≡ ledgerRun m cs .last .bytes
@@ -52,8 +54,9 @@ pub record Demand3 (m : ℕ) (cs : List Call) : Type 0 where
   pub recovery : (b : Block) → List·Memᴰ b (live m cs) → (r : ℕ) → inReach slotOrder (Found (b .start) (b .order)) (pos r) ≡ true → (q : ℕ) → holds b q ≡ true
       → heapCall (Step (markBit + r) (distance r q)) (after m cs) ≡ record { answer = accepted q; state = after m cs }
   -- no two blocks live by the history, at two places of the list, share an address
-  pub apart : (i j : ℕ) (none : Block) → i < j → j < length (live m cs) → (q : ℕ) → holds (getD (live m cs) i none) q ≡ true → holds (getD (live m cs) j none) q ≡ true → ⊥
+  pub apart : (i j : ℕ) (none : Block) → i < j → j < length (live m cs) → (q : ℕ) → holds (getD (live m cs) i none) q ≡ true
+      → holds (getD (live m cs) j none) q ≡ true → ⊥
   -- 21 is the answer of exactly the gets of 1 byte up to the arena's length for which no range free by the history before that get is large enough
   pub room : (before later : List Call) (c : Call) (xs ys : List Answer) (x : Answer)
       → cs ≡ before ++ (c ∷ later) → answersOf m cs ≡ xs ++ (x ∷ ys) → length xs ≡ length before
-      → (x .number ≡ 21 → StarvedGet m (liveBy m before xs) c) × (StarvedGet m (liveBy m before xs) c → x .number ≡ 21)
+      → let starved = StarvedGet slotOrder m (liveBy slotOrder m before xs) (changeOf c) in (x .number ≡ 21 → starved) × (starved → x .number ≡ 21)

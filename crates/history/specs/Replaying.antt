@@ -1,8 +1,8 @@
 -- A list of calls as bytes, and what `replay` makes of it and of the buffers that it is lent. The ledger alone says what comes out.
 use Prim.Native.Nat.{ℕ, zero, suc, _+_, _*_, _/_, _%_}
-use mathlib.Core.Bool.{Bool, false, not, cond, _&&_, _||_}
+use mathlib.Core.Bool.{Bool, false, not, cond, _||_}
 use mathlib.Core.List.{List, [], _∷_}
-use lib.Dec.{leb, ltb, eqb}
+use lib.Dec.{ltb, eqb}
 use lib.ListN.{length, getD}
 use Rattle.common.specs.Refusals.{Refusal, _when_, first}
 use Rattle.common.specs.Bytes.{bigEndian, over}
@@ -10,7 +10,8 @@ use Rattle.blocks.specs.Orders.{orderOf}
 use Rattle.blocks.specs.Sets.{tableOf}
 use Rattle.heap.specs.Views.{slotOrder}
 use Rattle.heap.specs.Heaps.{Heap, heapOf, viewOf}
-use Rattle.heap.specs.Answers.{answersBytes}
+use Rattle.heap.specs.Answers.{answerLength, answersBytes}
+use Rattle.heap.specs.Operations.{isOperation}
 use Rattle.heap.specs.declared.Call.{Call}
 use Rattle.heap.specs.declared.Call.the-variants.{Get, Give, Step, Read, Write, Left, Copy, Fill}
 use Rattle.history.specs.Runs.{ledgerRun}
@@ -19,7 +20,7 @@ use Rattle.history.specs.Runs.{ledgerRun}
 abbrev pub callLength : ℕ
 callLength = 14
 
--- the call of an operation from 1 to 8
+-- the call of one of the operations
 abbrev pub callOf : (op x a b c : ℕ) → Call
 callOf op x a b c =
     cond (eqb op 1) (Get a)
@@ -41,7 +42,7 @@ callsFrom s at (suc k) = callAt s at ∷ callsFrom s (at + callLength) k
 -- one of the k calls from `at` on has no operation of the table
 unfoldable pub unknownFrom : List ℕ → ℕ → ℕ → Bool
 unknownFrom s at zero = false
-unknownFrom s at (suc k) = not (leb 1 (getD s at 0) && leb (getD s at 0) 8) || unknownFrom s (at + callLength) k
+unknownFrom s at (suc k) = not (isOperation (getD s at 0)) || unknownFrom s (at + callLength) k
 
 abbrev pub callCount : List ℕ → ℕ
 callCount s = length s / callLength
@@ -55,7 +56,7 @@ replayRules calls h out =
     4 when not (eqb (length calls % callLength) 0)
     ∷ 5 when unknownFrom calls 0 (callCount calls)
     ∷ 8 when viewOf h .wrong-sizes
-    ∷ 9 when ltb (length out) (5 * callCount calls)
+    ∷ 9 when ltb (length out) (answerLength * callCount calls)
     ∷ []
 
 -- the number, both buffers and the answer slice

@@ -1,6 +1,7 @@
 -- A list of calls, each on the state that the one before left.
 use Prim.Native.Nat.{ℕ}
 use mathlib.Core.List.{List, [], _∷_}
+use Rattle.heap.specs.Views.{slotOrder}
 use Rattle.heap.specs.Effects.{Outcome}
 use Rattle.heap.specs.Heaps.{Heap, heapCall, freshHeap}
 use Rattle.heap.specs.declared.Answer.{Answer}
@@ -23,4 +24,4 @@ abbrev pub heapRun : ℕ → List Call → Run Heap
 heapRun m cs = run heapCall cs (freshHeap m)
 
 abbrev pub ledgerRun : ℕ → List Call → Run Ledger
-ledgerRun m cs = run (ledgerStep m) cs (emptyLedger m)
+ledgerRun m cs = run (ledgerStep slotOrder m) cs (emptyLedger m)

@@ -1,5 +1,8 @@
 // A list of calls from a fresh heap, replayed.
 use heap::Call;
+use heap::SLOT_ORDER;
+use heap::answers::ANSWER_LENGTH;
+use heap::operations;
 ghost use mathlib.Core.Path.{_≡_};
 ghost use Prim.Native.Nat.{_+_, _≤_};
 ghost use lib.ListN.{length};
@@ -9,9 +12,6 @@ ghost use Rattle.history.specs.Replaying.{callLength, callAt, callCount,
 
 // Bytes of a call: its operation, a byte, three numbers of four bytes.
 const CALL_LENGTH: usize = 14;
-
-// Bytes of an answer: its number, and its value in four.
-const ANSWER_LENGTH: usize = 5;
 
 // The call in the CALL_LENGTH bytes from `at` on.
 fn call_at(s: &[u8], at: usize) -> Call
@@ -43,7 +43,7 @@ fn any_unknown(calls: &[u8]) -> bool
     let mut i = 0usize;
     while i < n {
         let op = calls[i * CALL_LENGTH];
-        if op < 1 || 8 < op {
+        if op < 1 || operations::LAST < op {
             return true;
         }
         i += 1;
@@ -61,10 +61,7 @@ fn refusal(arena: &[u8], table: &[u8], calls: &[u8], out: &[u8]) -> u32
     if any_unknown(calls) {
         return 5;
     }
-    if arena.len() / 16 != table.len() {
-        return 8;
-    }
-    if blocks::order_of(arena.len()) == 0 {
+    if heap::sizes::order_of(arena, table, SLOT_ORDER) == 0 {
         return 8;
     }
     if out.len() / ANSWER_LENGTH < calls.len() / CALL_LENGTH {
@@ -73,7 +70,7 @@ fn refusal(arena: &[u8], table: &[u8], calls: &[u8], out: &[u8]) -> u32
     0
 }
 
-// Carries the calls out on a fresh heap, and stores each one's answer in five bytes of `out`. What comes out is what the ledger gives.
+// Carries the calls out on a fresh heap, and stores their answers in `out`, one after the other. What comes out is what the ledger gives.
 pub fn replay(arena: &mut [u8], table: &mut [u8], calls: &[u8], out: &mut [u8]) -> u32
     ensures { λ r. ⌜ replayed r (now (arena .exit)) (now (table .exit)) (now (out .exit)) ≡ replayOf (now (calls .entry)) (heapOf (now (arena .entry)) (now (table .entry))) (now (out .entry)) ⌝ }
 {
@@ -81,12 +78,18 @@ pub fn replay(arena: &mut [u8], table: &mut [u8], calls: &[u8], out: &mut [u8]) 
     if number != 0 {
         return number;
     }
-    let m = blocks::order_of(arena.len());
+    let m = heap::sizes::order_of(arena, table, SLOT_ORDER);
     heap::fresh(arena, table);
     let n = calls.len() / CALL_LENGTH;
     let mut i = 0usize;
     while i < n {
-        let answer = heap::unchecked::call(arena, table, m, call_at(calls, i * CALL_LENGTH));
+        let answer = heap::unchecked::call(
+            arena,
+            table,
+            SLOT_ORDER,
+            m,
+            call_at(calls, i * CALL_LENGTH),
+        );
         heap::answers::store(out, i * ANSWER_LENGTH, answer);
         i += 1;
     }

@@ -1,11 +1,19 @@
 // What a program that runs takes prints: document 01's lines.
+use blocks::MAX_ORDER;
+use common::wide;
+use heap::SLOT_ORDER;
+use heap::answers::ANSWER_LENGTH;
 use libc::STDOUT_FILENO;
 use runner::Ran;
+use takes::HEAD;
+use takes::LONGEST;
 ghost use mathlib.Core.Path.{_≡_};
 ghost use Prim.Native.Nat.{_+_, _*_, _^_, _≤_};
 ghost use lib.ListN.{length};
+ghost use Rattle.blocks.specs.Orders.{largestOrder};
 ghost use Rattle.takes.specs.Files.{sizeByte, fileNumber};
 ghost use Rattle.heap.specs.Heaps.{heapOf};
+ghost use Rattle.heap.specs.Answers.{answerLength};
 ghost use Rattle.runner.specs.Runs.{runOf};
 ghost use Rattle.runner.specs.Carrying.{ranTo};
 ghost use Rattle.printing.specs.Fitting.{Fitting};
@@ -26,47 +34,43 @@ fn print_pair(word: &[u8], n: u64) {
     print(b"\n");
 }
 
-fn wide(x: u8) -> u64 {
-    x as u64
-}
-
 // A record's line: its index, number and value. Its answer is in the five bytes from `at` on.
 fn print_answer(index: u32, answers: &[u8], at: usize)
-    requires { ⌜ at + 5 ≤ length (now answers) ⌝ }
+    requires { ⌜ at + answerLength ≤ length (now answers) ⌝ }
 {
     print_number(index as u64);
     print(b" ");
-    print_number(wide(answers[at]));
+    print_number(wide(answers[at]) as u64);
     print(b" ");
     print_number(common::read_number(answers, at + 1, 4) as u64);
     print(b"\n");
 }
 
 fn print_answers(answers: &[u8], count: u32)
-    requires { ⌜ 5 * count ≤ length (now answers) ⌝ }
+    requires { ⌜ answerLength * count ≤ length (now answers) ⌝ }
 {
     let mut i = 0u32;
     let mut at = 0usize;
     while i < count {
         print_answer(i, answers, at);
         i += 1;
-        at += 5;
+        at += ANSWER_LENGTH;
     }
 }
 
 // The arena's length by the file's size byte. A file that has no such byte is refused, whatever the length.
 fn size_for(file: &[u8]) -> usize
-    ensures { λ r. ⌜ r ≤ 65536 ⌝ }
+    ensures { λ r. ⌜ r ≤ 2 ^ largestOrder ⌝ }
     ensures { λ r. ⌜ (fileNumber (now (file .entry)) ≡ 0 → r ≡ 2 ^ sizeByte (now (file .entry))) ⌝ }
 {
-    if file.len() < 2 {
+    if file.len() < HEAD {
         return 0;
     }
-    let m = file[1];
-    if 16 < m {
+    let m = wide(file[1]);
+    if MAX_ORDER < m {
         return 0;
     }
-    blocks::size_of(m as u32) as usize
+    blocks::size_of(m) as usize
 }
 
 // The run of an upload, on memory that fits its file: so it is refused by the file alone, 1 to 7, never by a length, 8 or 9.
@@ -88,7 +92,7 @@ pub fn play(file: &[u8]) {
     let mut table = io::buffer();
     let mut answers = [0u8; ANSWERS];
     let size = size_for(file);
-    let slots = size / 16;
+    let slots = size >> SLOT_ORDER;
     let ran = run_in(file, &mut arena[..size], &mut table[..slots], &mut answers);
     let number = ran.number;
     if number != 0 {
@@ -101,9 +105,12 @@ pub fn play(file: &[u8]) {
     print_pair(b"end", count as u64);
 }
 
-// Plays what a descriptor gives. One byte more than the longest file is enough to refuse it.
+// One byte more than the longest file is enough to refuse it.
+const READ: usize = LONGEST + 1;
+
+// Plays what a descriptor gives.
 pub fn play_from(fd: i32) {
-    let mut file = [0u8; 8193];
+    let mut file = [0u8; READ];
     let n = io::read_full(fd, &mut file);
     play(&file[..n]);
 }

@@ -1,17 +1,17 @@
 -- A run's refusals, each where the code returns it, and what is known where there is none.
-use Prim.Native.Nat.{ℕ, zero, suc, _-_, _*_, _^_, _≤_, _<_}
+use Prim.Native.Nat.{ℕ, zero, suc, _*_, _≤_, _<_}
 use mathlib.Core.Path.{_≡_, refl, sym, _∙_, ap}
-use mathlib.Core.Bool.{Bool, true, false, not, cond, _||_, _&&_}
+use mathlib.Core.Bool.{Bool, true, false, cond, _&&_}
 use mathlib.Core.List.{List}
 use native.Mathlib.Omega.{arith}
 use lib.Dec.{eqb, ltb}
 use lib.ListN.{length}
-use borrow.Author.Tests.{eqb-true, eqb-false, eq-eqb, ne-eqb, lt-ltb, le-ltb, ltb-false}
+use borrow.Author.Tests.{eqb-true, eqb-false, ne-eqb, lt-ltb, le-ltb, ltb-false}
 use Rattle.common.specs.Refusals.{first}
 use Rattle.takes.specs.Files.{sizeByte, fileNumber, recordsOf, judgement}
 use Rattle.takes.specs.declared.Judgement.{Judgement}
 use Rattle.heap.specs.Views.{slotOrder}
-use Rattle.heap.specs.Heaps.{Heap, heapOf}
+use Rattle.heap.specs.Heaps.{Heap, heapOf, wrongSizes}
 use Rattle.heap.specs.Answers.{answerLength}
 use Rattle.heap.specs.Registers.{registersAtFirst}
 use Rattle.runner.specs.Runs.{RunOutcome, screenful, crowded, runRules, runSettled, runBy, runOf}
@@ -64,15 +64,15 @@ module _ (panel : Bool) (file : List ℕ) where
   no-screen p = rw p
 
 -- of a run by either caller on what is lent
-module _ (panel : Bool) (file a t out : List ℕ) where
+module _ (panel : Bool) (file a tab out : List ℕ) where
   -- the first refusal that applies
   abbrev number : ℕ
-  number = first (runRules panel file (heapOf a t) out)
+  number = first (runRules panel file (heapOf a tab) out)
 
   -- what is returned with the number k, nothing changed, is the run's outcome
   abbrev RefusedBy : ℕ → Type 0
   RefusedBy k =
-      (r : Ran) → r ≡ record { number = k; registers = record { values = registersAtFirst }; count = 0 } → ranTo r a t out ≡ runBy panel file (heapOf a t) out
+      (r : Ran) → r ≡ record { number = k; registers = record { values = registersAtFirst }; count = 0 } → ranTo r a tab out ≡ runBy panel file (heapOf a tab) out
 
   refused-by : (k : ℕ) → (k ≡ 0 → ⊥) → number ≡ k → RefusedBy k
   unfolding runBy
@@ -86,44 +86,37 @@ module _ (panel : Bool) (file a t out : List ℕ) where
   by-screen z b = refused-by 26 (λ z. omega arith) (rw (z, b))
 
   module _ (z : fileNumber file ≡ 0) (b : (panel && crowded file) ≡ false) where
-    pub by-arena : (length a ≡ 2 ^ sizeByte file → ⊥) → RefusedBy 8
-    by-arena d = refused-by 8 (λ z. omega arith) (rw (z, b, ne-eqb (length a) (2 ^ sizeByte file) d))
+    pub by-sizes : wrongSizes slotOrder (sizeByte file) (heapOf a tab) ≡ true → RefusedBy 8
+    by-sizes w = refused-by 8 (λ z. omega arith) (rw (z, b, w))
 
-    module _ (p : length a ≡ 2 ^ sizeByte file) where
-      pub by-table : (length t ≡ 2 ^ (sizeByte file - slotOrder) → ⊥) → RefusedBy 8
-      by-table d =
-          refused-by 8 (λ z. omega arith) (rw (z, b, eq-eqb (length a) (2 ^ sizeByte file) p, ne-eqb (length t) (2 ^ (sizeByte file - slotOrder)) d))
+    module _ (w : wrongSizes slotOrder (sizeByte file) (heapOf a tab) ≡ false) where
+      fits : (x : Bool) → ltb (length out) (answerLength * length (recordsOf file)) ≡ x → number ≡ cond x 9 0
+      fits x l = rw (z, b, w, l)
 
-      module _ (q : length t ≡ 2 ^ (sizeByte file - slotOrder)) where
-        fits : (x : Bool) → ltb (length out) (answerLength * length (recordsOf file)) ≡ x → number ≡ cond x 9 0
-        fits x l = rw (z, b, eq-eqb (length a) (2 ^ sizeByte file) p, eq-eqb (length t) (2 ^ (sizeByte file - slotOrder)) q, l)
+      pub by-room : length out < answerLength * length (recordsOf file) → RefusedBy 9
+      by-room l = refused-by 9 (λ z. omega arith) (fits true (lt-ltb (length out) (answerLength * length (recordsOf file)) l))
 
-        pub by-room : length out < answerLength * length (recordsOf file) → RefusedBy 9
-        by-room l = refused-by 9 (λ z. omega arith) (fits true (lt-ltb (length out) (answerLength * length (recordsOf file)) l))
+      by-none : answerLength * length (recordsOf file) ≤ length out → number ≡ 0
+      by-none l = fits false (le-ltb (length out) (answerLength * length (recordsOf file)) l)
 
-        by-none : answerLength * length (recordsOf file) ≤ length out → number ≡ 0
-        by-none l = fits false (le-ltb (length out) (answerLength * length (recordsOf file)) l)
-
-  pub run-done : (m : ℕ) → Runnable m file a t out → (panel && crowded file) ≡ false → (r : Ran) (a′ t′ out′ : List ℕ) → r .number ≡ 0
-      → r .count ≡ length (recordsOf file) → stateOf a′ t′ (r .registers .values) out′ ≡ allRecords (recordsOf file) 0 (atFirst m out)
-      → ranTo r a′ t′ out′ ≡ runBy panel file (heapOf a t) out
+  pub run-done : (m : ℕ) → Runnable m file a tab out → (panel && crowded file) ≡ false → (r : Ran) (a′ tab′ out′ : List ℕ) → r .number ≡ 0
+      → r .count ≡ length (recordsOf file) → stateOf a′ tab′ (r .registers .values) out′ ≡ allRecords (recordsOf file) 0 (atFirst m out)
+      → ranTo r a′ tab′ out′ ≡ runBy panel file (heapOf a tab) out
   unfolding runBy
-  run-done m g b r a′ t′ out′ n k e =
-      let p : length a ≡ 2 ^ sizeByte file = g .size ∙ ap (λ (m : ℕ). 2 ^ m) (sym (g .same)) in
-      let q : length t ≡ 2 ^ (sizeByte file - slotOrder) = g .slots ∙ ap (λ (m : ℕ). 2 ^ (m - slotOrder)) (sym (g .same)) in
-      rw (by-none (g .judged) b p q (g .room), n, k, g .same)
+  run-done m g b r a′ tab′ out′ n k e =
+      rw (by-none (g .judged) b (rw (g .same) (g .fits)) (g .room), n, k, g .same)
       (ap (λ (s : State). record { number = 0; registers = s .registers; count = length (recordsOf file); heap = s .heap; answers = s .answers }) e)
 
 -- an accepted upload had room for its answers
-pub ran-room : (file out : List ℕ) (h : Heap) (r : Ran) (a t out′ : List ℕ) → ranTo r a t out′ ≡ runOf file h out → r .number ≡ 0
+pub ran-room : (file out : List ℕ) (h : Heap) (r : Ran) (a tab out′ : List ℕ) → ranTo r a tab out′ ≡ runOf file h out → r .number ≡ 0
     → answerLength * r .count ≤ length out
 unfolding runBy
-ran-room file out h r a t out′ e z = go (first (runRules false file h out)) refl e
+ran-room file out h r a tab out′ e z = go (first (runRules false file h out)) refl e
   where
-    go : (k : ℕ) → first (runRules false file h out) ≡ k → ranTo r a t out′ ≡ runSettled k file h out → answerLength * r .count ≤ length out
+    go : (k : ℕ) → first (runRules false file h out) ≡ k → ranTo r a tab out′ ≡ runSettled k file h out → answerLength * r .count ≤ length out
     go zero k e =
         let short : Bool = ltb (length out) (answerLength * length (recordsOf file)) in
-        let wrong : Bool = not (eqb (length (h .arena)) (2 ^ sizeByte file)) || not (eqb (length (h .table)) (2 ^ (sizeByte file - slotOrder))) in
+        let wrong : Bool = wrongSizes slotOrder (sizeByte file) h in
         let two = unless (fileNumber file) (cond wrong 8 (cond short 9 0)) k in
         let three = clear 8 wrong (cond short 9 0) (λ z. omega arith) (two .1) in
         let four = clear 9 short 0 (λ z. omega arith) (three .1) in
@@ -135,17 +128,18 @@ settled-number zero file h out = refl
 settled-number (suc k) file h out = refl
 
 -- an upload on memory that fits its file is refused by the file alone
-module _ (file a t out : List ℕ) (p : fileNumber file ≡ 0 → length a ≡ 2 ^ sizeByte file)
-    (q : fileNumber file ≡ 0 → length t ≡ 2 ^ (sizeByte file - slotOrder)) (l : answerLength * mostRecords ≤ length out) where
-  first-is : number false file a t out ≡ fileNumber file
+module _ (file a tab out : List ℕ) (p : fileNumber file ≡ 0 → wrongSizes slotOrder (sizeByte file) (heapOf a tab) ≡ false)
+    (l : answerLength * mostRecords ≤ length out) where
+  first-is : number false file a tab out ≡ fileNumber file
   first-is = go (eqb (fileNumber file) 0) refl
     where
-      go : (b : Bool) → eqb (fileNumber file) 0 ≡ b → number false file a t out ≡ fileNumber file
+      go : (b : Bool) → eqb (fileNumber file) 0 ≡ b → number false file a tab out ≡ fileNumber file
       go true e =
           let z : fileNumber file ≡ 0 = eqb-true (fileNumber file) 0 e in
-          by-none false file a t out z refl (p z) (q z) (omega (arith, few-records file z)) ∙ sym z
+          by-none false file a tab out z refl (p z) (omega (arith, few-records file z)) ∙ sym z
       go false e = rw e
 
-  pub ran-number : (r : Ran) (a′ t′ out′ : List ℕ) → ranTo r a′ t′ out′ ≡ runOf file (heapOf a t) out → r .number ≡ fileNumber file
+  pub ran-number : (r : Ran) (a′ tab′ out′ : List ℕ) → ranTo r a′ tab′ out′ ≡ runOf file (heapOf a tab) out → r .number ≡ fileNumber file
   unfolding runBy
-  ran-number r a′ t′ out′ e = ap (λ (o : RunOutcome). o .number) e ∙ (settled-number (number false file a t out) file (heapOf a t) out ∙ first-is)
+  ran-number r a′ tab′ out′ e =
+      ap (λ (o : RunOutcome). o .number) e ∙ (settled-number (number false file a tab out) file (heapOf a tab) out ∙ first-is)

@@ -10,7 +10,6 @@ use lib.ListN.{length, set}
 use lib.Seq.{set-out}
 use Rattle.common.specs.Bytes.{over}
 use Rattle.blocks.specs.Orders.{orderOf}
-use Rattle.blocks.proofs.Orders.{order-power}
 use Rattle.takes.specs.Operations.{kindsOf}
 use Rattle.takes.specs.Records.{operation, fields}
 use Rattle.takes.specs.Reading.{highRegister}
@@ -19,12 +18,14 @@ use Rattle.takes.specs.declared.Record.{Record}
 use Rattle.takes.specs.declared.Record.the-variants.{Get as get, Give as give, Step as step, Read as read}
 use Rattle.takes.specs.declared.Record.the-variants.{Write as write, Left as left, Copy as copy, Fill as fill}
 use Rattle.heap.specs.Effects.{Outcome}
+use Rattle.heap.specs.Views.{slotOrder}
 use Rattle.heap.specs.Heaps.{Heap, heapOf, heapStep, heapCall, outcome}
 use Rattle.heap.specs.Judging.{Sound}
 use Rattle.heap.specs.Answers.{answerLength, answerBytes}
 use Rattle.heap.specs.declared.Answer.{Answer}
 use Rattle.heap.specs.declared.Call.{Call}
-use Rattle.history.proofs.Answers.{answers-next, answers-none}
+use Rattle.heap.proofs.Judging.{sound-sized}
+use Rattle.heap.proofs.AnswerBytes.{answers-next, answers-none}
 use Rattle.heap.specs.Registers.{registerCount, put}
 use Rattle.runner.specs.Decoding.{decoded, callOf, registersAfter}
 use Rattle.runner.specs.Runs.{Carried, carryOut}
@@ -72,13 +73,12 @@ stored-in r x rs l = go (eqb (x .number) 0)
     go false = put-none rs (x .value) l
 
 -- what the code does for one record
-pub one-record : (m : ℕ) (a t rs out : List ℕ) (r : Record) (place : ℕ) (c : Call) (x : Answer) (a′ t′ rs′ out′ : List ℕ)
-    → Sound m a t → c ≡ callOf rs r → outcome x a′ t′ ≡ heapStep m c (heapOf a t) → rs′ ≡ registersAfter r x rs → out′ ≡ over out place (answerBytes x)
-    → stateOf a′ t′ rs′ out′ ≡ oneRecord r place (stateOf a t rs out)
+pub one-record : (m : ℕ) (a tab rs out : List ℕ) (r : Record) (place : ℕ) (c : Call) (x : Answer) (a′ tab′ rs′ out′ : List ℕ) → Sound slotOrder m a tab
+    → c ≡ callOf rs r → outcome x a′ tab′ ≡ heapStep slotOrder m c (heapOf a tab) → rs′ ≡ registersAfter r x rs → out′ ≡ over out place (answerBytes x)
+    → stateOf a′ tab′ rs′ out′ ≡ oneRecord r place (stateOf a tab rs out)
 unfolding heapCall
-one-record m a t rs out r place c x a′ t′ rs′ out′ s p q u v =
-    let e : orderOf (length a) ≡ m = ap orderOf (s .size) ∙ order-power m (s .low) (s .high) in
-    let o : outcome x a′ t′ ≡ heapCall (callOf rs r) (heapOf a t) =
-    q ∙ ap₂ (λ (n : ℕ) (d : Call). heapStep n d (heapOf a t)) (sym e) p in
+one-record m a tab rs out r place c x a′ tab′ rs′ out′ s p q u v =
+    let e : m ≡ orderOf (length a) = sound-sized slotOrder a tab s .same in
+    let o : outcome x a′ tab′ ≡ heapCall (callOf rs r) (heapOf a tab) = q ∙ ap₂ (λ (n : ℕ) (d : Call). heapStep slotOrder n d (heapOf a tab)) e p in
     rw (u, v)
     (ap (λ (o : Outcome Heap). record { heap = o .state; registers = registersAfter r (o .answer) rs; answers = over out place (answerBytes (o .answer)) }) o)

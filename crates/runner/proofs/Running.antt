@@ -6,16 +6,18 @@ use mathlib.Core.Option.{some}
 use native.Mathlib.Omega.{arith}
 use lib.ListN.{length, drop}
 use Rattle.takes.specs.Reading.{readAt}
-use Rattle.takes.specs.Files.{Walk, ended, before, walkFrom, headLength, smallestSize, largestSize, recordsOf}
+use Rattle.takes.specs.Files.{Walk, ended, before, walkFrom, headLength, recordsOf}
 use Rattle.takes.specs.declared.Record.{Record}
 use Rattle.takes.proofs.Walks.{Next, found-next, from-end, accepted-here}
 use Rattle.takes.proofs.RoundTrips.{read-low}
+use Rattle.heap.specs.Views.{slotOrder}
 use Rattle.heap.specs.Effects.{Outcome}
 use Rattle.heap.specs.Heaps.{Heap, heapOf, heapFresh, freshHeap, outcome}
 use Rattle.heap.specs.Judging.{Sound}
 use Rattle.heap.specs.Answers.{answerLength}
 use Rattle.heap.specs.declared.Answer.{Answer}
-use Rattle.history.proofs.Runs.{fresh-made}
+use Rattle.heap.proofs.Judging.{Sized, fits-sized, fresh-heap}
+use Rattle.history.proofs.Runs.{slot-orders}
 use Rattle.history.proofs.Soundness.{SoundHeap, fresh-sound, call-sound}
 use Rattle.heap.specs.Registers.{registerCount, registersAtFirst}
 use Rattle.runner.specs.Decoding.{callOf}
@@ -23,26 +25,29 @@ use Rattle.runner.specs.Carrying.{State, stateOf, atFirst, oneRecord, al
 use Rattle.runner.proofs.Files.{accepted-file}
 use Rattle.runner.proofs.Records.{all-next, all-none, low-registers}
 
+-- the lengths that the run may rely on
+pub run-sized : {m : ℕ} {file a tab out : List ℕ} → Runnable m file a tab out → Sized slotOrder a tab m
+run-sized {m} {a = a} {tab = tab} r = fits-sized slotOrder a tab m (r .fits)
+
 -- what is still to come from here gives what the whole run gives
-pub record Going (m : ℕ) (file out₀ a t rs out : List ℕ) (at place : ℕ) : Type 0 where
+pub record Going (m : ℕ) (file out₀ a tab rs out : List ℕ) (at place : ℕ) : Type 0 where
   -- the table is undamaged, so a run never scans it
-  pub sound : Sound m a t
+  pub sound : Sound slotOrder m a tab
   pub good : walkFrom file at .number ≡ 0
   pub room : place + answerLength * length (walkFrom file at .records) ≤ length out
   pub sixteen : length rs ≡ registerCount
   pub same : length out ≡ length out₀
-  pub rest : allRecords (walkFrom file at .records) place (stateOf a t rs out) ≡ allRecords (recordsOf file) 0 (atFirst m out₀)
+  pub rest : allRecords (walkFrom file at .records) place (stateOf a tab rs out) ≡ allRecords (recordsOf file) 0 (atFirst m out₀)
 
-pub going-start : (m : ℕ) (file a t out a′ t′ rs : List ℕ) (x : Answer) → Runnable m file a t out
-    → outcome x a′ t′ ≡ heapFresh (heapOf a t) → rs ≡ registersAtFirst → Going m file out a′ t′ rs out headLength 0
+pub going-start : (m : ℕ) (file a tab out a′ tab′ rs : List ℕ) (x : Answer) → Runnable m file a tab out
+    → outcome x a′ tab′ ≡ heapFresh (heapOf a tab) → rs ≡ registersAtFirst → Going m file out a′ tab′ rs out headLength 0
 unfolding recordsOf
-going-start m file a t out a′ t′ rs x r e z =
+going-start m file a tab out a′ tab′ rs x r e z =
     let f = accepted-file file (r .judged) in
-    let low : smallestSize ≤ m = omega (arith, f .head .low, r .same) in
-    let high : m ≤ largestSize = omega (arith, f .head .high, r .same) in
-    let h : heapOf a′ t′ ≡ freshHeap m = ap (λ (o : Outcome Heap). o .state) e ∙ fresh-made m (heapOf a t) low high (r .size) (r .slots) in
+    let s = run-sized r in
+    let h : heapOf a′ tab′ ≡ freshHeap m = ap (λ (o : Outcome Heap). o .state) (e ∙ fresh-heap m a tab (r .fits)) in
     record {
-      sound = subst (SoundHeap m) (sym h) (fresh-sound m low high);
+      sound = subst (SoundHeap slotOrder m) (sym h) (fresh-sound (slot-orders m (s .low) (s .high)));
       good = f .records;
       room = omega (arith, r .room);
       sixteen = ap length z;
@@ -50,11 +55,11 @@ going-start m file a t out a′ t′ rs x r e z =
       rest = ap₂ (λ (h : Heap) (l : List ℕ). allRecords (walkFrom file headLength .records) 0 (record { heap = h; registers = l; answers = out })) h z;
     }
 
-module _ {m : ℕ} {file out₀ a t rs out : List ℕ} {at place : ℕ} (g : Going m file out₀ a t rs out at place) where
-  pub going-end : length file ≤ at → stateOf a t rs out ≡ allRecords (recordsOf file) 0 (atFirst m out₀)
+module _ {m : ℕ} {file out₀ a tab rs out : List ℕ} {at place : ℕ} (g : Going m file out₀ a tab rs out at place) where
+  pub going-end : length file ≤ at → stateOf a tab rs out ≡ allRecords (recordsOf file) 0 (atFirst m out₀)
   going-end h =
       let e : walkFrom file at ≡ ended 0 = from-end file at h in
-      sym (ap (λ (w : Walk). allRecords (w .records) place (stateOf a t rs out)) e ∙ all-none place (stateOf a t rs out)) ∙ g .rest
+      sym (ap (λ (w : Walk). allRecords (w .records) place (stateOf a tab rs out)) e ∙ all-none place (stateOf a tab rs out)) ∙ g .rest
 
   -- the record that comes next is good
   module _ (more : at < length file) where
@@ -77,18 +82,18 @@ module _ {m : ℕ} {file out₀ a t rs out : List ℕ} {at place : ℕ} (g : Goi
       pub going-room : place + answerLength * suc (length (walkFrom file next .records)) ≤ length out
       going-room = rw to-come at (g .room)
 
-      pub going-step : (a′ t′ rs′ out′ : List ℕ) → stateOf a′ t′ rs′ out′ ≡ oneRecord r place (stateOf a t rs out)
-          → length rs′ ≡ length rs → length out′ ≡ length out → Going m file out₀ a′ t′ rs′ out′ next (place + answerLength)
-      going-step a′ t′ rs′ out′ q k l =
+      pub going-step : (a′ tab′ rs′ out′ : List ℕ) → stateOf a′ tab′ rs′ out′ ≡ oneRecord r place (stateOf a tab rs out)
+          → length rs′ ≡ length rs → length out′ ≡ length out → Going m file out₀ a′ tab′ rs′ out′ next (place + answerLength)
+      going-step a′ tab′ rs′ out′ q k l =
           record {
-            sound = subst (SoundHeap m) (sym (ap (λ (s : State). s .heap) q)) (call-sound m (heapOf a t) (g .sound) (callOf rs r));
+            sound = subst (SoundHeap slotOrder m) (sym (ap (λ (s : State). s .heap) q)) (call-sound m (heapOf a tab) (g .sound) (callOf rs r));
             good = sym (ap (λ (w : Walk). w .number) to-come) ∙ g .good;
             room = omega (arith, going-room);
             sixteen = k ∙ g .sixteen;
             same = l ∙ g .same;
             rest =
                 ap (allRecords (walkFrom file next .records) (place + answerLength)) q
-                ∙ (sym (all-next r (walkFrom file next .records) place (stateOf a t rs out) (omega (arith, going-room)))
-                ∙ (sym (ap (λ (w : Walk). allRecords (w .records) place (stateOf a t rs out)) to-come)
+                ∙ (sym (all-next r (walkFrom file next .records) place (stateOf a tab rs out) (omega (arith, going-room)))
+                ∙ (sym (ap (λ (w : Walk). allRecords (w .records) place (stateOf a tab rs out)) to-come)
                 ∙ g .rest));
           }

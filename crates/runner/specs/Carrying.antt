@@ -1,7 +1,7 @@
 -- What the parts of a run's code say to each other: the state of a run, one record carried out on it, and many; the registers that a record names.
-use Prim.Native.Nat.{ℕ, _-_, _*_, _/_, _^_, _≤_}
+use Prim.Native.Nat.{ℕ, _-_, _*_, _/_, _≤_}
 use mathlib.Core.Path.{_≡_}
-use mathlib.Core.Bool.{cond}
+use mathlib.Core.Bool.{false, cond}
 use mathlib.Core.List.{List}
 use mathlib.Core.Option.{Option, none, some}
 use lib.Dec.{eqb}
@@ -10,7 +10,7 @@ use Rattle.common.specs.Bytes.{over}
 use Rattle.takes.specs.Files.{headLength, longest, sizeByte, fileNumber, recordsOf}
 use Rattle.takes.specs.declared.Record.{Record}
 use Rattle.heap.specs.Views.{slotOrder}
-use Rattle.heap.specs.Heaps.{Heap, heapOf, heapCall, freshHeap}
+use Rattle.heap.specs.Heaps.{Heap, heapOf, wrongSizes, heapCall, freshHeap}
 use Rattle.heap.specs.Answers.{answerLength, answerBytes, answersBytes}
 use Rattle.heap.specs.declared.Answer.{Answer}
 use Rattle.heap.specs.Registers.{registerCount, registersAtFirst}
@@ -26,7 +26,7 @@ pub record State : Type 0 where
   pub answers : List ℕ
 
 abbrev pub stateOf : List ℕ → List ℕ → List ℕ → List ℕ → State
-stateOf a t rs out = record { heap = heapOf a t; registers = rs; answers = out }
+stateOf a tab rs out = record { heap = heapOf a tab; registers = rs; answers = out }
 
 -- before the first record: the heap fresh, the registers 0
 abbrev pub atFirst : ℕ → List ℕ → State
@@ -45,11 +45,10 @@ allRecords rs place s =
     record { heap = c .heap; registers = c .registers; answers = over (s .answers) place (answersBytes (c .answers)) }
 
 -- nothing refuses the run
-pub record Runnable (m : ℕ) (file a t out : List ℕ) : Type 0 where
+pub record Runnable (m : ℕ) (file a tab out : List ℕ) : Type 0 where
   pub judged : fileNumber file ≡ 0
   pub same : sizeByte file ≡ m
-  pub size : length a ≡ 2 ^ m
-  pub slots : length t ≡ 2 ^ (m - slotOrder)
+  pub fits : wrongSizes slotOrder m (heapOf a tab) ≡ false
   pub room : answerLength * length (recordsOf file) ≤ length out
 
 -- no file has more records: each takes two bytes or more, its length byte and its operation
@@ -58,7 +57,7 @@ mostRecords = (longest - headLength) / 2
 
 -- what a run returned and the buffers that it left, as its outcome
 abbrev pub ranTo : Ran → List ℕ → List ℕ → List ℕ → RunOutcome
-ranTo r a t out = record { number = r .number; registers = r .registers .values; count = r .count; heap = heapOf a t; answers = out }
+ranTo r a tab out = record { number = r .number; registers = r .registers .values; count = r .count; heap = heapOf a tab; answers = out }
 
 -- the index that stands for no register: the first past them
 abbrev pub noRegister : ℕ

@@ -1,6 +1,6 @@
 -- Document 01, "A take", and document 02, "Panel takes": a run of a file, uploaded or from the front panel, on a lent arena, table and answer slice.
-use Prim.Native.Nat.{ℕ, zero, suc, _-_, _*_, _^_}
-use mathlib.Core.Bool.{Bool, true, false, not, _||_, _&&_}
+use Prim.Native.Nat.{ℕ, zero, suc, _*_}
+use mathlib.Core.Bool.{Bool, true, false, not, _&&_}
 use mathlib.Core.List.{List, [], _∷_}
 use lib.Dec.{eqb, ltb}
 use lib.ListN.{length}
@@ -9,7 +9,7 @@ use Rattle.common.specs.Bytes.{over}
 use Rattle.takes.specs.Files.{sizeByte, fileNumber, recordsOf}
 use Rattle.takes.specs.declared.Record.{Record}
 use Rattle.heap.specs.Views.{slotOrder}
-use Rattle.heap.specs.Heaps.{Heap, heapCall, freshHeap}
+use Rattle.heap.specs.Heaps.{Heap, wrongSizes, heapCall, freshHeap}
 use Rattle.heap.specs.Answers.{answerLength, answersBytes}
 use Rattle.heap.specs.declared.Answer.{Answer}
 use Rattle.heap.specs.Registers.{registersAtFirst}
@@ -42,7 +42,7 @@ abbrev pub runRules : Bool → List ℕ → Heap → List ℕ → List Refusal
 runRules panel file h out =
     fileNumber file when not (eqb (fileNumber file) 0)
     ∷ 26 when (panel && crowded file)
-    ∷ 8 when (not (eqb (length (h .arena)) (2 ^ sizeByte file)) || not (eqb (length (h .table)) (2 ^ (sizeByte file - slotOrder))))
+    ∷ 8 when wrongSizes slotOrder (sizeByte file) h
     ∷ 9 when ltb (length out) (answerLength * length (recordsOf file))
     ∷ []
 

@@ -1,6 +1,7 @@
 // Runs a take: its file is judged, the heap made fresh, and each record carried out with sixteen registers.
 use heap::Answer;
 use heap::Call;
+use heap::SLOT_ORDER;
 use heap::answers::ANSWER_LENGTH;
 use heap::registers;
 use heap::registers::Registers;
@@ -8,6 +9,7 @@ ghost use mathlib.Core.Path.{_≡_};
 ghost use Prim.Native.Nat.{_+_, _≤_};
 ghost use lib.ListN.{length};
 ghost use Rattle.common.specs.Bytes.{over};
+ghost use Rattle.heap.specs.Views.{slotOrder};
 ghost use Rattle.heap.specs.Heaps.{heapOf, heapStep, outcome};
 ghost use Rattle.heap.specs.Answers.{answerLength, answerBytes};
 ghost use Rattle.heap.specs.Judging.{Sound};
@@ -49,12 +51,12 @@ fn carry_out_one(
     m: u32,
     c: Call,
 ) -> Answer
-    requires { ⌜ Sound m (now arena) (now table) ⌝ }
+    requires { ⌜ Sound slotOrder m (now arena) (now table) ⌝ }
     requires { ⌜ place + answerLength ≤ length (now answers) ⌝ }
-    ensures { λ r. ⌜ outcome r (now (arena .exit)) (now (table .exit)) ≡ heapStep m c (heapOf (now (arena .entry)) (now (table .entry))) ⌝ }
+    ensures { λ r. ⌜ outcome r (now (arena .exit)) (now (table .exit)) ≡ heapStep slotOrder m c (heapOf (now (arena .entry)) (now (table .entry))) ⌝ }
     ensures { λ r. ⌜ now (answers .exit) ≡ over (now (answers .entry)) place (answerBytes r) ⌝ }
 {
-    let answer = heap::unchecked::call(arena, table, m, c);
+    let answer = heap::unchecked::call(arena, table, SLOT_ORDER, m, c);
     heap::answers::store(answers, place, answer);
     answer
 }
@@ -113,10 +115,7 @@ fn run_by(panel: bool, file: &[u8], arena: &mut [u8], table: &mut [u8], answers:
         return refused(26);
     }
     let m = judgement.size;
-    if arena.len() != blocks::size_of(m) as usize {
-        return refused(8);
-    }
-    if table.len() != blocks::size_of(m - 4) as usize {
+    if heap::sizes::order_of(arena, table, SLOT_ORDER) != m {
         return refused(8);
     }
     if answers.len() / ANSWER_LENGTH < records {

@@ -5,7 +5,8 @@ use mathlib.Core.List.{List, [], _∷_}
 use native.Mathlib.Omega.{arith}
 use lib.ListN.{length, getD, drop, set}
 use borrow.Author.Tests.{lt-ltb, le-ltb, le-leb, lt-leb, eq-eqb, ne-eqb}
-use Rattle.takes.specs.Files.{headLength, longest, smallestSize, largestSize, headNumber}
+use Rattle.blocks.specs.Orders.{smallestOrder, largestOrder}
+use Rattle.takes.specs.Files.{headLength, longest, headNumber}
 use Rattle.takes.specs.Writing.{writeHead}
 
 module _ (s : List ℕ) where
@@ -24,42 +25,42 @@ module _ (s : List ℕ) where
       no-size h = rw (ne-eqb (length s) 0 some, eq-eqb (getD s 0 0) 1 one, lt-ltb (length s) headLength h)
 
       module _ (sized : headLength ≤ length s) where
-        pub small : getD s 1 0 < smallestSize → 2 ≡ headNumber s
+        pub small : getD s 1 0 < smallestOrder → 2 ≡ headNumber s
         unfolding headNumber
-        small h = rw (ne-eqb (length s) 0 some, eq-eqb (getD s 0 0) 1 one, le-ltb (length s) headLength sized, lt-leb smallestSize (getD s 1 0) h)
+        small h = rw (ne-eqb (length s) 0 some, eq-eqb (getD s 0 0) 1 one, le-ltb (length s) headLength sized, lt-leb smallestOrder (getD s 1 0) h)
 
-        pub large : smallestSize ≤ getD s 1 0 → largestSize < getD s 1 0 → 2 ≡ headNumber s
+        pub large : smallestOrder ≤ getD s 1 0 → largestOrder < getD s 1 0 → 2 ≡ headNumber s
         unfolding headNumber
         large l h =
             rw (
               ne-eqb (length s) 0 some,
               eq-eqb (getD s 0 0) 1 one,
               le-ltb (length s) headLength sized,
-              le-leb smallestSize (getD s 1 0) l,
-              lt-leb (getD s 1 0) largestSize h,
+              le-leb smallestOrder (getD s 1 0) l,
+              lt-leb (getD s 1 0) largestOrder h,
             )
 
-        pub long : smallestSize ≤ getD s 1 0 → getD s 1 0 ≤ largestSize → longest < length s → 3 ≡ headNumber s
+        pub long : smallestOrder ≤ getD s 1 0 → getD s 1 0 ≤ largestOrder → longest < length s → 3 ≡ headNumber s
         unfolding headNumber
         long l h k =
             rw (
               ne-eqb (length s) 0 some,
               eq-eqb (getD s 0 0) 1 one,
               le-ltb (length s) headLength sized,
-              le-leb smallestSize (getD s 1 0) l,
-              le-leb (getD s 1 0) largestSize h,
+              le-leb smallestOrder (getD s 1 0) l,
+              le-leb (getD s 1 0) largestOrder h,
               lt-ltb longest (length s) k,
             )
 
-        pub good : smallestSize ≤ getD s 1 0 → getD s 1 0 ≤ largestSize → length s ≤ longest → 0 ≡ headNumber s
+        pub good : smallestOrder ≤ getD s 1 0 → getD s 1 0 ≤ largestOrder → length s ≤ longest → 0 ≡ headNumber s
         unfolding headNumber
         good l h k =
             rw (
               ne-eqb (length s) 0 some,
               eq-eqb (getD s 0 0) 1 one,
               le-ltb (length s) headLength sized,
-              le-leb smallestSize (getD s 1 0) l,
-              le-leb (getD s 1 0) largestSize h,
+              le-leb smallestOrder (getD s 1 0) l,
+              le-leb (getD s 1 0) largestOrder h,
               le-ltb longest (length s) k,
             )
 
@@ -69,19 +70,19 @@ two-set (x ∷ []) a b h = absurd (omega arith)
 two-set (x ∷ y ∷ out) a b h = refl
 
 module _ (m : ℕ) (out : List ℕ) where
-  pub small-m : m < smallestSize → record { number = 2; count = 0; slice = out } ≡ writeHead m out
+  pub small-m : m < smallestOrder → record { number = 2; count = 0; slice = out } ≡ writeHead m out
   unfolding writeHead
-  small-m h = rw (lt-leb smallestSize m h)
+  small-m h = rw (lt-leb smallestOrder m h)
 
-  module _ (low : smallestSize ≤ m) where
-    pub large-m : largestSize < m → record { number = 2; count = 0; slice = out } ≡ writeHead m out
+  module _ (low : smallestOrder ≤ m) where
+    pub large-m : largestOrder < m → record { number = 2; count = 0; slice = out } ≡ writeHead m out
     unfolding writeHead
-    large-m h = rw (le-leb smallestSize m low, lt-leb m largestSize h)
+    large-m h = rw (le-leb smallestOrder m low, lt-leb m largestOrder h)
 
-    pub no-room : m ≤ largestSize → length out < headLength → record { number = 9; count = 0; slice = out } ≡ writeHead m out
+    pub no-room : m ≤ largestOrder → length out < headLength → record { number = 9; count = 0; slice = out } ≡ writeHead m out
     unfolding writeHead
-    no-room l h = rw (le-leb smallestSize m low, le-leb m largestSize l, lt-ltb (length out) headLength h)
+    no-room l h = rw (le-leb smallestOrder m low, le-leb m largestOrder l, lt-ltb (length out) headLength h)
 
-    pub head-stored : m ≤ largestSize → headLength ≤ length out → record { number = 0; count = headLength; slice = set (set out 0 1) 1 m } ≡ writeHead m out
+    pub head-stored : m ≤ largestOrder → headLength ≤ length out → record { number = 0; count = headLength; slice = set (set out 0 1) 1 m } ≡ writeHead m out
     unfolding writeHead
-    head-stored l h = rw (le-leb smallestSize m low, le-leb m largestSize l, le-ltb (length out) headLength h, two-set out 1 m h)
+    head-stored l h = rw (le-leb smallestOrder m low, le-leb m largestOrder l, le-ltb (length out) headLength h, two-set out 1 m h)

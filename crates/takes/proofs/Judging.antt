@@ -8,7 +8,8 @@ use lib.Dec.{eqb, leb, ltb}
 use lib.ListN.{length, getD, take}
 use borrow.Author.Tests.{ltb-false, leb-true, eqb-true, eqb-false, ne-eqb, not-false}
 use Rattle.takes.specs.Reading.{refused, readAt}
-use Rattle.takes.specs.Files.{Walk, ended, walkFrom, headLength, longest, sizeByte, smallestSize, largestSize, isSize}
+use Rattle.blocks.specs.Orders.{smallestOrder, largestOrder, isArenaOrder}
+use Rattle.takes.specs.Files.{Walk, ended, walkFrom, headLength, longest, sizeByte}
 use Rattle.takes.specs.Files.{headNumber, recordsNumber, fileNumber, recordsOf, judgement}
 use Rattle.takes.specs.Writing.{headBytes}
 use Rattle.takes.specs.declared.Record.{Record}
@@ -20,15 +21,15 @@ use Rattle.takes.proofs.Walks.{Next, from-end, from-refused}
 pub record Head (s : List ℕ) : Type 0 where
   pub first-byte : getD s 0 0 ≡ 1
   pub both : headLength ≤ length s
-  pub low : smallestSize ≤ sizeByte s
-  pub high : sizeByte s ≤ largestSize
+  pub low : smallestOrder ≤ sizeByte s
+  pub high : sizeByte s ≤ largestOrder
   pub short : length s ≤ longest
 
 abbrev test-1 : List ℕ → Bool
 test-1 s = eqb (length s) 0 || not (eqb (getD s 0 0) 1)
 
 abbrev test-2 : List ℕ → Bool
-test-2 s = ltb (length s) headLength || not (isSize (sizeByte s))
+test-2 s = ltb (length s) headLength || not (isArenaOrder (sizeByte s))
 
 pub head-accepted : (s : List ℕ) → headNumber s ≡ 0 → Head s
 unfolding headNumber
@@ -37,12 +38,12 @@ head-accepted s h = by-1 (test-1 s) refl h
     by-3 : test-1 s ≡ false → test-2 s ≡ false → (b : Bool) → ltb longest (length s) ≡ b → _≡_ {A = ℕ} (cond b 3 0) 0 → Head s
     by-3 p q true e h = absurd (omega arith)
     by-3 p q false e h =
-        let m : isSize (sizeByte s) ≡ true = not-false (isSize (sizeByte s)) (or-right (ltb (length s) headLength) (not (isSize (sizeByte s))) q) in
+        let m : isArenaOrder (sizeByte s) ≡ true = not-false (isArenaOrder (sizeByte s)) (or-right (ltb (length s) headLength) (not (isArenaOrder (sizeByte s))) q) in
         record {
           first-byte = eqb-true (getD s 0 0) 1 (not-false (eqb (getD s 0 0) 1) (or-right (eqb (length s) 0) (not (eqb (getD s 0 0) 1)) p));
-          both = ltb-false (length s) headLength (or-left (ltb (length s) headLength) (not (isSize (sizeByte s))) q);
-          low = leb-true smallestSize (sizeByte s) (and-left (leb smallestSize (sizeByte s)) (leb (sizeByte s) largestSize) m);
-          high = leb-true (sizeByte s) largestSize (and-right (leb smallestSize (sizeByte s)) (leb (sizeByte s) largestSize) m);
+          both = ltb-false (length s) headLength (or-left (ltb (length s) headLength) (not (isArenaOrder (sizeByte s))) q);
+          low = leb-true smallestOrder (sizeByte s) (and-left (leb smallestOrder (sizeByte s)) (leb (sizeByte s) largestOrder) m);
+          high = leb-true (sizeByte s) largestOrder (and-right (leb smallestOrder (sizeByte s)) (leb (sizeByte s) largestOrder) m);
           short = ltb-false longest (length s) e;
         }
 

@@ -1,11 +1,12 @@
 -- Judging a whole file, and the records of an accepted one.
 use Prim.Native.Nat.{ℕ, zero, suc}
-use mathlib.Core.Bool.{Bool, true, false, not, cond, _||_, _&&_}
+use mathlib.Core.Bool.{Bool, true, false, not, cond, _||_}
 use mathlib.Core.List.{List, [], _∷_}
 use mathlib.Core.Option.{Option, none, some}
-use lib.Dec.{eqb, leb, ltb}
+use lib.Dec.{eqb, ltb}
 use lib.ListN.{length, getD}
 use Rattle.common.specs.Refusals.{Refusal, _when_, first}
+use Rattle.blocks.specs.Orders.{isArenaOrder}
 use Rattle.takes.specs.Reading.{Given, readAt}
 use Rattle.takes.specs.declared.Record.{Record}
 use Rattle.takes.specs.declared.Judgement.{Judgement}
@@ -45,19 +46,9 @@ headLength = 2
 abbrev pub longest : ℕ
 longest = 8192
 
--- the size byte, document 01's m
+-- the size byte, document 01's m: the order of the arena
 abbrev pub sizeByte : List ℕ → ℕ
 sizeByte file = getD file 1 0
-
--- the arena's sizes, by their order, that it may be
-abbrev pub smallestSize : ℕ
-smallestSize = 5
-
-abbrev pub largestSize : ℕ
-largestSize = 16
-
-abbrev pub isSize : ℕ → Bool
-isSize m = leb smallestSize m && leb m largestSize
 
 -- the number of the first record that is refused, 0 where none is
 abbrev pub recordsNumber : List ℕ → ℕ
@@ -66,7 +57,7 @@ recordsNumber file = walkFrom file headLength .number
 abbrev pub headRules : List ℕ → List Refusal
 headRules file =
     1 when (eqb (length file) 0 || not (eqb (getD file 0 0) 1))
-    ∷ 2 when (ltb (length file) headLength || not (isSize (sizeByte file)))
+    ∷ 2 when (ltb (length file) headLength || not (isArenaOrder (sizeByte file)))
     ∷ 3 when ltb longest (length file)
     ∷ []
 

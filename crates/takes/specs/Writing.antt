@@ -9,7 +9,8 @@ use Rattle.common.specs.Bytes.{bytesOf}
 use Rattle.takes.specs.Operations.{Kind, kindsOf, size, lengthOf}
 use Rattle.takes.specs.Records.{operation, fields}
 use Rattle.takes.specs.Reading.{highRegister}
-use Rattle.takes.specs.Files.{isSize, fileNumber}
+use Rattle.blocks.specs.Orders.{isArenaOrder}
+use Rattle.takes.specs.Files.{fileNumber}
 use Rattle.takes.specs.declared.Record.{Record}
 use Rattle.takes.specs.declared.Written.{Written}
 
@@ -54,7 +55,7 @@ abbrev pub store : List Refusal → List ℕ → List ℕ → Stored
 store rules bytes out = judgedStore (first rules) bytes out
 
 unfoldable pub writeHead : ℕ → List ℕ → Stored
-writeHead m out = store (2 when not (isSize m) ∷ 9 when ltb (length out) (length (headBytes m)) ∷ []) (headBytes m) out
+writeHead m out = store (2 when not (isArenaOrder m) ∷ 9 when ltb (length out) (length (headBytes m)) ∷ []) (headBytes m) out
 
 unfoldable pub writeRecord : Record → List ℕ → Stored
 writeRecord r out =

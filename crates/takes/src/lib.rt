@@ -1,4 +1,6 @@
 // The take format: its operation table, the reader, the judging of a file and the writer.
+use blocks::MAX_ORDER;
+use blocks::MIN_ORDER;
 use common::index;
 use common::wide;
 use heap::operations;
@@ -52,11 +54,6 @@ pub struct Written {
 pub const HEAD: usize = 2;
 
 pub const LONGEST: usize = 8192;
-
-// The arena's sizes, by their order: a file's size byte is one of them.
-pub const SMALLEST_SIZE: u32 = 5;
-
-pub const LARGEST_SIZE: u32 = 16;
 
 // One past the last register.
 const REGISTERS: u32 = registers::COUNT as u32;
@@ -197,10 +194,10 @@ fn judge_head(file: &[u8]) -> u32
         return 2;
     }
     let size = wide(file[1]);
-    if size < SMALLEST_SIZE {
+    if size < MIN_ORDER {
         return 2;
     }
-    if LARGEST_SIZE < size {
+    if MAX_ORDER < size {
         return 2;
     }
     if LONGEST < file.len() {
@@ -330,13 +327,13 @@ fn put_fields(out: &mut [u8], p: Parts, kinds: u32)
 pub fn write_head(out: &mut [u8], m: u32) -> Written
     ensures { λ r. ⌜ stored r (now (out .exit)) ≡ writeHead m (now (out .entry)) ⌝ }
 {
-    if m < SMALLEST_SIZE {
+    if m < MIN_ORDER {
         return Written {
             number: 2,
             count: 0,
         };
     }
-    if LARGEST_SIZE < m {
+    if MAX_ORDER < m {
         return Written {
             number: 2,
             count: 0,

@@ -8,10 +8,10 @@ use Rattle.blocks.proofs.needed_order.Statement.{statement}
 use Rattle.blocks.proofs.needed_order.Tie as tie
 
 abbrev Inv-loop : tie.InvT-loop
-Inv-loop m n e₀ e = (e ≤ m) × (neededOrder 4 m n ≡ neededFrom n (m - e) e)
+Inv-loop t m n e₀ e = (e ≤ m) × (neededOrder t m n ≡ neededFrom n (m - e) e)
 
 abbrev μ-loop : tie.MeasureT-loop
-μ-loop m n e₀ e = m - e
+μ-loop t m n e₀ e = m - e
 
 loop-holds : tie.Need-loop-holds Inv-loop μ-loop
 unfolding neededOrder

@@ -18,7 +18,7 @@ returns : tie.Need-returns
 returns c =
     let a = c .before .before .before .args in
     let s = a .table .now in
-    c .referent-at .ensures ∙ ap (λ (x : ℕ). referentIn 4 s x) (c .before .sought-address .ensures) ∙ referent-from-zero 4 s (sought 4 (a .p))
+    c .referent-at .ensures ∙ ap (λ (x : ℕ). referentIn (a .t) s x) (c .before .sought-address .ensures) ∙ referent-from-zero (a .t) s (sought (a .t) (a .p))
 
 pub referent-of-spec : {M : Type 1} → statement M
 referent-of-spec = tie.close (tie.spec sought-address-requires referent-at-requires returns)

@@ -12,6 +12,12 @@ size-of-requires c κs = search needs
 cast-size : tie.Need-cast-size
 cast-size c = search needs
 
+cast-slots : tie.Need-cast-slots
+cast-slots c = search needs
+
+shr-slots : tie.Need-shr-slots
+shr-slots c = omega arith
+
 least-requires : tie.Need-least-requires
 least-requires c κs = search needs
 
@@ -37,6 +43,8 @@ lent-by-spec =
     (tie.spec
     size-of-requires
     cast-size
+    cast-slots
+    shr-slots
     least-requires
     least-requires-2
     returns

@@ -1,4 +1,5 @@
--- `check` meets its contract: it is judged as left is, test by test; refused, its number is left's, and else it is `unchecked::check`.
+-- `check` meets its contract: it is judged as left is (`address-left`), test by test; refused, its number is the first of its own list, and else it is
+-- `unchecked::check` of a plain address.
 use Prim.Native.Nat.{ℕ}
 use mathlib.Core.Bool.{Bool, true, false, cond}
 use mathlib.Core.Path.{_≡_, refl, sym, ap, _∙_}
@@ -8,10 +9,11 @@ use borrow.Author.Tests.{eq-eqb, ne-eqb}
 use lib.Dec.{eqb}
 use Rattle.common.specs.Refusals.{first}
 use Rattle.blocks.specs.Pointers.{marked}
+use Rattle.heap.specs.Views.{slotOrder}
 use Rattle.heap.specs.Rules.{argumentRules}
 use Rattle.heap.specs.Judging.{beforeCall}
 use Rattle.heap.specs.declared.Call.the-variants.{Left}
-use Rattle.heap.proofs.Judging.{Ordered, ordered, order-slots, Judged, judge, check-refused}
+use Rattle.heap.proofs.Judging.{Ordered, ordered, order-slots, Judged, judge, check-refused, judged-check}
 use Rattle.heap.proofs.check.Statement.{statement}
 use Rattle.heap.proofs.check.Tie as tie
 
@@ -28,11 +30,11 @@ module _ (c : tie.After-order-of) where
   abbrev order : ℕ
   order = c .order-of .result
 
-  known : Ordered (start .args .arena .now) (start .args .table .now) order
+  known : Ordered slotOrder (start .args .arena .now) (start .args .table .now) order
   known = ordered (c .order-of .ensures)
 
   -- judged, with n the arguments' refusal and k the call's
-  judged : (n k : ℕ) → n ≡ first (argumentRules order (Left (start .args .p))) → k ≡ beforeCall order n (start .args .table .now)
+  judged : (n k : ℕ) → n ≡ first (argumentRules order (Left (start .args .p))) → k ≡ beforeCall slotOrder order n (start .args .table .now)
       → Judged (Left (start .args .p)) (start .args .arena .now) (start .args .table .now) k order
   judged n k x h = judge known x h
 
@@ -80,7 +82,7 @@ returns-2 c =
     check-refused (start o .args .i) thirteen (λ z. omega arith) (c .refused2 .ensures)
 
 damaged-requires : tie.Need-damaged-requires
-damaged-requires c κs = order-slots (known (sized (c .before))) (c .before .before .if1 .left)
+damaged-requires c κs = order-slots (known (sized (c .before))) (omega arith) (omega arith) (c .before .before .if1 .left)
 
 refused-requires-3 : tie.Need-refused-requires-3
 refused-requires-3 c κs = search needs
@@ -92,10 +94,14 @@ returns-3 c =
     check-refused (start o .args .i) (by-damage d true (c .before .if3 .taken)) (λ z. omega arith) (c .refused3 .ensures)
 
 check-requires : tie.Need-check-requires
-check-requires c κs = by-damage (c .before) false (c .if3 .left) .ready refl
+check-requires c κs =
+    let m = c .before .before .before in
+    (by-damage (c .before) false (c .if3 .left) .ready refl .sound, sym (m .is-marked .ensures) ∙ c .before .before .if2 .left)
 
 returns-4 : tie.Need-returns-4
-returns-4 c = search needs
+returns-4 c =
+    let d = c .before .before in
+    judged-check (start (sized (d .before .before)) .args .i) (by-damage d false (c .before .if3 .left)) refl (c .check .ensures)
 
 pub check-spec : {M : Type 1} → statement M
 check-spec =

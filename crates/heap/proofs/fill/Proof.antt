@@ -1,6 +1,8 @@
 -- `fill` meets its contract: by what `order_of`, `arguments` and `before_call` ensure, the call is judged; refused, it leaves the heap as it was,
 -- and else it is `unchecked::fill` with the order that the arena has.
+use native.Mathlib.Omega.{arith}
 use borrow.Author.Needs.{needs}
+use Rattle.heap.specs.Views.{slotOrder}
 use Rattle.heap.specs.declared.Call.the-variants.{Fill}
 use Rattle.heap.proofs.Judging.{Ordered, ordered, order-top, order-slots, Judged, judge, judged-refused, judged-call}
 use Rattle.heap.proofs.fill.Statement.{statement}
@@ -11,7 +13,7 @@ module _ (c : tie.After-order-of) where
   abbrev start : tie.Start
   start = c .before .before .before .before
 
-  order : Ordered (start .args .arena .now) (start .args .table .now) (c .order-of .result)
+  order : Ordered slotOrder (start .args .arena .now) (start .args .table .now) (c .order-of .result)
   order = ordered (c .order-of .ensures)
 
 -- once the call is judged
@@ -29,7 +31,7 @@ arguments-requires : tie.Need-arguments-requires
 arguments-requires c κs = order-top (order c)
 
 before-call-requires : tie.Need-before-call-requires
-before-call-requires c κs = order-slots (order (c .before))
+before-call-requires c κs = order-slots (order (c .before)) (omega arith) (omega arith)
 
 refused-requires : tie.Need-refused-requires
 refused-requires c κs = search needs

@@ -1,5 +1,6 @@
 -- `fresh` meets its contract: what `order_of` ensures says whether the lengths fit, and where they do the two fills leave all zero.
 use borrow.Author.Needs.{needs}
+use Rattle.heap.specs.Views.{slotOrder}
 use Rattle.heap.proofs.Judging.{Ordered, ordered, fresh-refused, fresh-done}
 use Rattle.heap.proofs.fresh.Statement.{statement}
 use Rattle.heap.proofs.fresh.Tie as tie
@@ -9,7 +10,7 @@ module _ (c : tie.After-order-of) where
   abbrev start : tie.Start
   start = c .before .before .before .before .before
 
-  order : Ordered (start .args .arena .now) (start .args .table .now) (c .order-of .result)
+  order : Ordered slotOrder (start .args .arena .now) (start .args .table .now) (c .order-of .result)
   order = ordered (c .order-of .ensures)
 
 order-of-requires : tie.Need-order-of-requires

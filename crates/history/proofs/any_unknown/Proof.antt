@@ -1,12 +1,11 @@
 -- `any_unknown` meets its contract. The loop's invariant: what is asked of all calls is asked of those that are left.
-use Prim.Native.Nat.{_-_, _*_, _/_, _≤_}
-use mathlib.Core.Bool.{true}
+use Prim.Native.Nat.{_-_, _*_, _≤_}
 use mathlib.Core.Logic.{inl, inr}
-use lib.ListN.{length}
 use mathlib.Core.Path.{_≡_, sym, _∙_}
 use native.Mathlib.Omega.{arith}
 use borrow.Author.Tests.{ltb-true, ltb-false}
 use native.Mathlib.Nat.{sub-zero}
+use Rattle.heap.specs.Operations.{lastOperation}
 use Rattle.history.specs.Replaying.{callLength, unknownFrom}
 use Rattle.history.proofs.Encoding.{unknown-below, unknown-above, known-here, none-unknown}
 use Rattle.history.proofs.any_unknown.Statement.{statement}
@@ -32,7 +31,7 @@ returns c =
     let more = c .before .before .loop-test .taken in
     sym (c .before .before .before .loop .inv .1 ∙ elim (c .if1 .came) [
       | inl u ↦ unknown-below _ _ _ more (u .taken)
-      | inr u ↦ unknown-above _ _ _ more (u .0 .left) (ltb-true 8 _ (u .1 .taken))
+      | inr u ↦ unknown-above _ _ _ more (u .0 .left) (ltb-true lastOperation _ (u .1 .taken))
     ])
 
 add-i : tie.Need-add-i Inv-loop μ-loop
@@ -42,7 +41,11 @@ loop-less : tie.Need-loop-less Inv-loop μ-loop
 loop-less c = omega arith
 
 loop-again : tie.Need-loop-again Inv-loop μ-loop
-loop-again c = (omega arith, c .before .before .before .before .loop .inv .1 ∙ known-here _ _ _ (c .before .before .before .loop-test .taken) (c .before .if1 .left) (ltb-false 8 _ (c .if2 .left)))
+loop-again c =
+    let inside : tie.In-loop Inv-loop μ-loop = c .before .before .before in (
+      omega arith,
+      inside .before .loop .inv .1 ∙ known-here _ _ _ (inside .loop-test .taken) (c .before .if1 .left) (ltb-false lastOperation _ (c .if2 .left)),
+    )
 
 returns-2 : tie.Need-returns-2 Inv-loop μ-loop
 returns-2 c = sym (c .before .loop .inv .1 ∙ none-unknown _ _ _ (c .loop-test .left))

@@ -41,7 +41,9 @@ module _ (c : tie.After-read-number3) where
   s = c .before .before .before .before .before .before
 
   read : (k : ℕ) → getD (s .args .s .now) (s .args .at) 0 ≡ k
-      → callOf k (getD (s .args .s .now) (s .args .at + 1) 0) (c .before .before .read-number .result) (c .before .read-number2 .result) (c .read-number3 .result) ≡ callAt (s .args .s .now) (s .args .at)
+      → callOf k (getD (s .args .s .now) (s .args .at + 1) 0)
+      (c .before .before .read-number .result) (c .before .read-number2 .result) (c .read-number3 .result)
+      ≡ callAt (s .args .s .now) (s .args .at)
   read = call-is _ _ _ _ _ (c .before .before .read-number .ensures) (c .before .read-number2 .ensures) (c .read-number3 .ensures)
 
 returns : tie.Need-returns
@@ -68,7 +70,9 @@ returns-7 c = read (c .before) 7 (c .match .keys7)
 returns-8 : tie.Need-returns-8
 returns-8 c =
     let n = c .match .rest in
-    fill-is _ _ _ (c .before .before .read-number2 .result) _ (n .0 .0 .0 .0 .0 .0 .1) (n .0 .0 .0 .0 .0 .1) (n .0 .0 .0 .0 .1) (n .0 .0 .0 .1) (n .0 .0 .1) (n .0 .1) (n .1) ∙ read (c .before) _ refl
+    fill-is _ _ _ (c .before .before .read-number2 .result) _ (n .0 .0 .0 .0 .0 .0 .1) (n .0 .0 .0 .0 .0 .1) (n .0 .0 .0 .0 .1) (n .0 .0 .0 .1)
+    (n .0 .0 .1) (n .0 .1) (n .1)
+    ∙ read (c .before) _ refl
 
 pub call-at-spec : {M : Type 1} → statement M
 call-at-spec =

@@ -5,6 +5,7 @@ use native.Mathlib.Omega.{arith}
 use borrow.Author.Needs.{needs}
 use Rattle.common.specs.Refusals.{first}
 use Rattle.heap.specs.Heaps.{heapOf}
+use Rattle.heap.proofs.Judging.{ordered}
 use Rattle.history.specs.Replaying.{replayRules}
 use Rattle.history.proofs.Replaying.{Playable, playable, refused-is, Going, going-start, going-sound, going-step, going-end, played-is}
 use Rattle.history.proofs.replay.Statement.{statement}
@@ -15,6 +16,36 @@ Inv-loop arena₀ table₀ calls out₀ number m n i₀ arena table out i = Goin
 
 abbrev μ-loop : tie.MeasureT-loop
 μ-loop arena₀ table₀ calls out₀ number m n i₀ arena table out i = n - i
+
+-- the places on the path
+abbrev at-first : tie.After-refusal Inv-loop μ-loop → tie.Start Inv-loop μ-loop
+at-first c = c .before .before .before .before .before .before .before .before
+
+abbrev judged : tie.After-order-of Inv-loop μ-loop → tie.After-refusal Inv-loop μ-loop
+judged c = c .before .before .before .before
+
+abbrev ordered-before : tie.At-loop Inv-loop μ-loop → tie.After-order-of Inv-loop μ-loop
+ordered-before c = c .before .before .before .before .before .before .before .before
+
+abbrev in-loop : tie.After-call Inv-loop μ-loop → tie.In-loop Inv-loop μ-loop
+in-loop c = c .before .before .before .before
+
+abbrev called : tie.After-store-arg Inv-loop μ-loop → tie.After-call Inv-loop μ-loop
+called c = c .before .before .before .before .before
+
+abbrev stored : tie.After-slice-known8 Inv-loop μ-loop → tie.After-store Inv-loop μ-loop
+stored c = c .before .before
+
+-- nothing refuses the replay
+module _ (c : tie.After-order-of Inv-loop μ-loop) where
+  abbrev s : tie.Start Inv-loop μ-loop
+  s = at-first (judged c)
+
+  accepted : first (replayRules (s .args .calls .now) (heapOf (s .args .arena .now) (s .args .table .now)) (s .args .out .now)) ≡ 0
+  accepted = sym (judged c .refusal .ensures) ∙ c .before .before .before .if1 .left
+
+  fine : Playable (c .order-of .result) (s .args .calls .now) (s .args .arena .now) (s .args .table .now) (s .args .out .now)
+  fine = playable _ (s .args .calls .now) (s .args .arena .now) (s .args .table .now) (s .args .out .now) (ordered (c .order-of .ensures)) accepted
 
 refusal-requires : tie.Need-refusal-requires Inv-loop μ-loop
 refusal-requires c κs = search needs
@@ -29,7 +60,9 @@ same-length-3 : tie.Need-same-length-3 Inv-loop μ-loop
 same-length-3 c = search needs
 
 returns : tie.Need-returns Inv-loop μ-loop
-returns c = let s = c .before .before .before .before .before .before .before .before .before .args in refused-is (s .calls .now) (s .arena .now) (s .table .now) (s .out .now) _ (c .before .refusal .ensures) (c .if1 .taken)
+returns c =
+    let a = at-first (c .before) .args in
+    refused-is (a .calls .now) (a .arena .now) (a .table .now) (a .out .now) _ (c .before .refusal .ensures) (c .if1 .taken)
 
 order-of-requires : tie.Need-order-of-requires Inv-loop μ-loop
 order-of-requires c κs = search needs
@@ -37,21 +70,11 @@ order-of-requires c κs = search needs
 fresh-requires : tie.Need-fresh-requires Inv-loop μ-loop
 fresh-requires c κs = search needs
 
--- nothing refuses the replay
-module _ (c : tie.After-order-of Inv-loop μ-loop) where
-  abbrev s : tie.Start Inv-loop μ-loop
-  s = c .before .before .before .before .before .before .before .before .before .before
-
-  accepted : first (replayRules (s .args .calls .now) (heapOf (s .args .arena .now) (s .args .table .now)) (s .args .out .now)) ≡ 0
-  accepted = sym (c .before .before .refusal .ensures) ∙ c .before .if1 .left
-
-  fine : Playable (c .order-of .result) (s .args .calls .now) (s .args .arena .now) (s .args .table .now) (s .args .out .now)
-  fine = playable _ (s .args .calls .now) (s .args .arena .now) (s .args .table .now) (s .args .out .now) (c .order-of .ensures) accepted
-
 loop-holds : tie.Need-loop-holds Inv-loop μ-loop
 loop-holds c =
-    let o = c .before .before .before .before .before .before .before in
-    let f = c .before .before .before .before .fresh in
+    let made : tie.After-fresh Inv-loop μ-loop = c .before .before .before .before in
+    let o : tie.After-order-of Inv-loop μ-loop = made .before .before .before in
+    let f = made .fresh in
     going-start _ _ (s o .args .arena .now) (s o .args .table .now) _ (f .last .0) (f .last .1 .0) (f .result) (fine o) (f .ensures)
 
 mul-call-at : tie.Need-mul-call-at Inv-loop μ-loop
@@ -63,38 +86,42 @@ call-at-requires c κs = omega arith
 call-requires : tie.Need-call-requires Inv-loop μ-loop
 call-requires c κs = going-sound (c .before .before .before .before .loop .inv)
 
+-- the calls are fewer than the bytes of a slice can be
 mul-store : tie.Need-mul-store Inv-loop μ-loop
-mul-store c = omega (arith, c .before .before .before .before .before .before .before .before .before .before .before .before .before .before .before .before .before .before .before .before .before .before .before .before .before .before .before .before .good .1 .1 .0 .0)
+mul-store c = omega (arith, s (ordered-before (in-loop (called c) .before)) .good .1 .1 .0 .0)
 
 store-requires : tie.Need-store-requires Inv-loop μ-loop
-store-requires c κs = omega (arith, c .before .before .before .before .before .before .before .before .before .before .loop .inv .room, c .before .before .before .before .before .before .before .before .before .loop-test .taken)
+store-requires c κs = let l = in-loop (called c) in omega (arith, l .before .loop .inv .room, l .loop-test .taken)
 
 add-i : tie.Need-add-i Inv-loop μ-loop
-add-i c = omega (arith, c .before .before .before .before .before .before .before .before .before .before .before .before .before .before .before .before .before .before .before .before .before .before .before .before .before .before .before .before .before .before .before .good .1 .1 .0 .0)
+add-i c = omega (arith, s (ordered-before (in-loop (called (stored c .before)) .before)) .good .1 .1 .0 .0)
 
 loop-less : tie.Need-loop-less Inv-loop μ-loop
 loop-less c = omega arith
 
 loop-again : tie.Need-loop-again Inv-loop μ-loop
 loop-again c =
-    let k = c .before .before .before .before .before .before .before .before in
-    going-step (c .before .before .before .before .before .before .before .before .before .before .before .before .before .loop .inv) (c .before .before .before .before .before .before .before .before .before .before .before .before .loop-test .taken) (k .before .call-at .result) (k .before .call-at .ensures) (k .call .result)
-    (k .call .last .0) (k .call .last .1 .0) (c .before .before .store .last .0) (k .call .ensures) (c .before .before .store .ensures) (c .before .before .store .kept .0)
+    let out = stored c .store in
+    let k : tie.After-call Inv-loop μ-loop = called (stored c .before) in
+    let l : tie.In-loop Inv-loop μ-loop = in-loop k in
+    going-step (l .before .loop .inv) (l .loop-test .taken) (k .before .call-at .result) (k .before .call-at .ensures) (k .call .result)
+    (k .call .last .0) (k .call .last .1 .0) (out .last .0) (k .call .ensures) (out .ensures) (out .kept .0)
 
 same-length-4 : tie.Need-same-length-4 Inv-loop μ-loop
-same-length-4 c = going-sound (c .before .loop .inv) .size ∙ sym (fine (c .before .before .before .before .before .before .before .before .before) .sized .size)
+same-length-4 c = going-sound (c .before .loop .inv) .size ∙ sym (fine (ordered-before (c .before)) .sized .size)
 
 same-length-5 : tie.Need-same-length-5 Inv-loop μ-loop
-same-length-5 c = going-sound (c .before .loop .inv) .slots ∙ sym (fine (c .before .before .before .before .before .before .before .before .before) .sized .slots)
+same-length-5 c = going-sound (c .before .loop .inv) .slots ∙ sym (fine (ordered-before (c .before)) .sized .slots)
 
 same-length-6 : tie.Need-same-length-6 Inv-loop μ-loop
 same-length-6 c = c .before .loop .inv .same
 
 returns-2 : tie.Need-returns-2 Inv-loop μ-loop
 returns-2 c =
-    let o = c .before .before .before .before .before .before .before .before .before in
+    let o : tie.After-order-of Inv-loop μ-loop = ordered-before (c .before) in
+    let a = s o .args in
     going-end (c .before .loop .inv) (c .loop-test .left)
-    ∙ played-is _ (s o .args .calls .now) (s o .args .arena .now) (s o .args .table .now) (s o .args .out .now) (o .order-of .ensures) (accepted o)
+    ∙ played-is _ (a .calls .now) (a .arena .now) (a .table .now) (a .out .now) (fine o) (accepted o)
 
 pub replay-spec : {M : Type 1} → statement M
 replay-spec =

@@ -1,12 +1,20 @@
 -- The buffers are as long as they are said to be, so they fit every file.
-use Prim.Native.Nat.{ℕ, _+_, _-_, _*_, _/_, _^_, _≤_}
+use Prim.Native.Nat.{ℕ, _*_, _/_, _^_, _≤_}
 use mathlib.Core.Path.{_≡_, sym, _∙_, ap}
 use native.Mathlib.Omega.{arith}
+use mathlib.Core.Bool.{false}
+use mathlib.Core.List.{List}
 use lib.ListN.{length, take}
 use lib.Seq.{length-take-le}
-use lib.Pow.{pow-add}
 use borrow.Author.Needs.{needs}
-use Rattle.takes.specs.Files.{sizeByte}
+use Rattle.blocks.specs.Orders.{orderOf}
+use Rattle.blocks.proofs.Floors.{pow-quotient}
+use Rattle.blocks.proofs.Orders.{order-power}
+use Rattle.heap.specs.Views.{slotOrder}
+use Rattle.heap.specs.Heaps.{heapOf, wrongSizes}
+use Rattle.heap.specs.Answers.{answerLength}
+use Rattle.heap.proofs.Judging.{sizes-right}
+use Rattle.takes.specs.Files.{sizeByte, fileNumber}
 use Rattle.runner.proofs.Files.{accepted-file}
 use Rattle.runner.proofs.Judging.{ran-room}
 use Rattle.printing.proofs.play.Statement.{statement}
@@ -21,6 +29,12 @@ buffer-requires c κs = search needs
 size-for-requires : tie.Need-size-for-requires
 size-for-requires c κs = search needs
 
+cast-slots : tie.Need-cast-slots
+cast-slots c = search needs
+
+shr-slots : tie.Need-shr-slots
+shr-slots c = omega arith
+
 array-borrow-prefix-arena : tie.Need-array-borrow-prefix-arena
 array-borrow-prefix-arena c = search needs
 
@@ -29,12 +43,19 @@ module _ (c : tie.After-size-for) where
   abbrev size : ℕ
   size = c .size-for .result
 
-  arena-length : length (take size (c .before .before .large-buffer .result)) ≡ size
+  abbrev arena : List ℕ
+  arena = take size (c .before .before .large-buffer .result)
+
+  abbrev table : List ℕ
+  table = take (size / 2 ^ slotOrder) (c .before .buffer .result)
+
+  arena-length : length arena ≡ size
   arena-length =
       length-take-le size (c .before .before .large-buffer .result) (omega (arith, c .size-for .ensures .0, c .before .before .large-buffer .ensures))
 
-  table-length : length (take (size / 16) (c .before .buffer .result)) ≡ size / 16
-  table-length = length-take-le (size / 16) (c .before .buffer .result) (omega (arith, c .size-for .ensures .0, c .before .buffer .ensures))
+  table-length : length table ≡ size / 2 ^ slotOrder
+  table-length =
+      length-take-le (size / 2 ^ slotOrder) (c .before .buffer .result) (omega (arith, c .size-for .ensures .0, c .before .buffer .ensures))
 
 slice-aggregate-run-in : tie.Need-slice-aggregate-run-in
 slice-aggregate-run-in c = sym (arena-length (c .before))
@@ -48,20 +69,27 @@ slice-aggregate-run-in-2 c = sym (table-length (c .before .before))
 slice-aggregate-run-in-3 : tie.Need-slice-aggregate-run-in-3
 slice-aggregate-run-in-3 c = search needs
 
--- a slot for every sixteen bytes
-slots : (m n : ℕ) → n ≡ 2 ^ m → 5 ≤ m → n / 16 ≡ 2 ^ (m - 4)
-slots m n e h =
-    let k : m - 4 + 4 ≡ m = omega arith in
-    let p : 2 ^ m ≡ 2 ^ (m - 4) * 2 ^ 4 = ap (λ (j : ℕ). 2 ^ j) (sym k) ∙ pow-add 2 (m - 4) 4 in
-    omega arith
+-- the lengths of an accepted file's arena and table
+sized : (file a tab : List ℕ) → fileNumber file ≡ 0 → length a ≡ 2 ^ sizeByte file → length tab ≡ length a / 2 ^ slotOrder
+    → wrongSizes slotOrder (sizeByte file) (heapOf a tab) ≡ false
+sized file a tab z p q =
+    let m = sizeByte file in
+    let h = accepted-file file z .head in
+    sizes-right slotOrder a tab
+    (record {
+      same = sym (ap orderOf p ∙ order-power m (h .low) (h .high));
+      low = h .low;
+      high = h .high;
+      size = p;
+      slots = q ∙ ap (λ (n : ℕ). n / 2 ^ slotOrder) p ∙ pow-quotient slotOrder m (omega (arith, h .low));
+    })
 
 run-in-requires : tie.Need-run-in-requires
 run-in-requires c κs =
     let s = c .before .before .before in
     let file = s .before .before .before .before .args .file .now in
     record {
-      arena = λ e. arena-length s ∙ s .size-for .ensures .1 e;
-      table = λ e. table-length s ∙ slots (sizeByte file) (size s) (s .size-for .ensures .1 e) (accepted-file file e .head .low);
+      sizes = λ e. sized file (arena s) (table s) e (arena-length s ∙ s .size-for .ensures .1 e) (table-length s ∙ ap (λ (n : ℕ). n / 2 ^ slotOrder) (sym (arena-length s)));
       answers = omega arith;
     }
 
@@ -91,7 +119,7 @@ module _ (c : tie.After-answers3) where
   abbrev run : tie.After-run-in
   run = c .before .before .before .before .before .before .before
 
-  answered : 5 * run .run-in .result .count ≤ length (run .run-in .last .1 .1 .1 .0)
+  answered : answerLength * run .run-in .result .count ≤ length (run .run-in .last .1 .1 .1 .0)
   answered =
       let r = run .run-in in
       omega (arith, ran-room _ _ _ (r .result) _ _ _ (r .ensures .0) (c .before .before .before .if1 .left), r .kept .1 .1 .1 .0)
@@ -118,6 +146,8 @@ play-spec =
     large-buffer-requires
     buffer-requires
     size-for-requires
+    cast-slots
+    shr-slots
     array-borrow-prefix-arena
     slice-aggregate-run-in
     array-borrow-prefix-table

@@ -29,7 +29,7 @@ returns c =
     let r = done c .run in
     let a = start c .args in
     let f = start c .pre in
-    (r .ensures, ran-number (a .file .now) (a .arena .now) (a .table .now) (a .answers .now) (f .arena) (f .table) (f .answers) (r .result) _ _ _ (r .ensures))
+    (r .ensures, ran-number (a .file .now) (a .arena .now) (a .table .now) (a .answers .now) (f .sizes) (f .answers) (r .result) _ _ _ (r .ensures))
 
 pub run-in-spec : {M : Type 1} → statement M
 run-in-spec = tie.close (tie.spec run-requires same-length same-length-2 same-length-3 returns)

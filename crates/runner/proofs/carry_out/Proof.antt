@@ -15,7 +15,7 @@ use Rattle.runner.specs.Decoding.{decoded, callOf, registersAfter}
 use Rattle.runner.specs.Carrying.{stateOf, oneRecord, operandsOf, storedIn}
 use Rattle.runner.specs.declared.decoding.Operands.{Operands}
 use Rattle.runner.proofs.Records.{stored-in, one-record}
-use Rattle.runner.proofs.Running.{Going, going-start, going-good, going-low, going-room, going-further, going-step, going-end}
+use Rattle.runner.proofs.Running.{run-sized, Going, going-start, going-good, going-low, going-room, going-further, going-step, going-end}
 use Rattle.runner.proofs.carry_out.Statement.{statement}
 use Rattle.runner.proofs.carry_out.Tie as tie
 
@@ -215,10 +215,10 @@ loop-again-2 c =
     (sym (set-out (rs l) (t .stored-in .result) (made t .carry-out-one .result .value) (omega (arith, c .if1 .left, l .loop .inv .sixteen))))
 
 same-length : tie.Need-same-length Inv-loop μ-loop
-same-length c = c .before .loop .inv .sound .size ∙ sym (start (c .before) .pre .size)
+same-length c = c .before .loop .inv .sound .size ∙ sym (run-sized (start (c .before) .pre) .size)
 
 same-length-2 : tie.Need-same-length-2 Inv-loop μ-loop
-same-length-2 c = c .before .loop .inv .sound .slots ∙ sym (start (c .before) .pre .slots)
+same-length-2 c = c .before .loop .inv .sound .slots ∙ sym (run-sized (start (c .before) .pre) .slots)
 
 same-length-3 : tie.Need-same-length-3 Inv-loop μ-loop
 same-length-3 c = c .before .loop .inv .same

@@ -1,7 +1,4 @@
-use mathlib.Core.List.{List}
-use Prim.Native.Nat.{ℕ}
 use borrow.Author.Needs.{needs}
-use Rattle.runner.specs.declared.Ran.{Ran}
 use Rattle.runner.proofs.refused.Statement.{statement}
 use Rattle.runner.proofs.refused.Tie as tie
 

@@ -1,20 +1,21 @@
 -- Each refusal is the first that applies at its return. Past them all the run is what the records leave.
-use Prim.Native.Nat.{ℕ, _-_, _^_, _≤_}
-use mathlib.Core.Path.{_≡_, refl, sym, _∙_, ap}
+use Prim.Native.Nat.{ℕ, _≤_}
+use mathlib.Core.Path.{_≡_, refl, sym}
 use mathlib.Core.Bool.{Bool, false, _&&_}
 use mathlib.Core.List.{List}
 use mathlib.Core.Logic.{⊎-elim}
 use native.Mathlib.Omega.{arith}
 use borrow.Author.Needs.{needs}
-use lib.ListN.{length}
-use Rattle.takes.specs.Files.{sizeByte, smallestSize, largestSize}
+use Rattle.blocks.specs.Orders.{smallestOrder, largestOrder}
 use Rattle.takes.specs.declared.Judgement.{Judgement}
 use Rattle.heap.specs.Views.{slotOrder}
+use Rattle.heap.specs.Heaps.{heapOf, wrongSizes}
+use Rattle.heap.proofs.Lengths.{order-other, order-this}
 use Rattle.runner.specs.Runs.{crowded}
 use Rattle.runner.specs.Carrying.{Runnable}
 use Rattle.runner.proofs.Files.{accepted-file, few-records}
 use Rattle.runner.proofs.Judging.{judge-refused, Judged, judge-accepted, screen-full, screen-room, no-screen}
-use Rattle.runner.proofs.Judging.{by-file, by-screen, by-arena, by-table, by-room, run-done}
+use Rattle.runner.proofs.Judging.{by-file, by-screen, by-sizes, by-room, run-done}
 use Rattle.runner.proofs.run_by.Statement.{statement}
 use Rattle.runner.proofs.run_by.Tie as tie
 
@@ -49,10 +50,10 @@ module _ (c : tie.Else1) where
   good : Judged (file judged) (found judged)
   good = judge-accepted (file judged) (found judged) (judged .judge .ensures) (c .if1 .left)
 
-  low : smallestSize ≤ found judged .size
+  low : smallestOrder ≤ found judged .size
   low = omega (arith, accepted-file (file judged) (good .judged) .head .low, good .size)
 
-  high : found judged .size ≤ largestSize
+  high : found judged .size ≤ largestOrder
   high = omega (arith, accepted-file (file judged) (good .judged) .head .high, good .size)
 
 -- past the screen's
@@ -69,51 +70,28 @@ module _ (c : tie.Joined2) where
       (λ w. no-screen (panel lent) (file lent) (w .left))
       (c .if2 .came)
 
--- past the arena's length
+-- past the lengths
 module _ (c : tie.Else4) where
   abbrev past-screen : tie.Joined2
-  past-screen = c .before .before
+  past-screen = c .before .before .before .before
 
-  arena-fits : length (arena (lent past-screen)) ≡ 2 ^ found (lent past-screen) .size
-  arena-fits = c .if4 .left ∙ c .before .size-of .ensures
-
-  arena-right : length (arena (lent past-screen)) ≡ 2 ^ sizeByte (file (lent past-screen))
-  arena-right = arena-fits ∙ ap (λ (m : ℕ). 2 ^ m) (sym (good (past-file past-screen) .size))
-
--- past the table's length
-module _ (c : tie.Else5) where
-  abbrev past-arena : tie.Else4
-  past-arena = c .before .before
-
-  abbrev screen-before : tie.Joined2
-  screen-before = past-screen past-arena
-
-  table-fits : length (table (lent screen-before)) ≡ 2 ^ (found (lent screen-before) .size - slotOrder)
-  table-fits = c .if5 .left ∙ c .before .size-of2 .ensures
-
-  table-right : length (table (lent screen-before)) ≡ 2 ^ (sizeByte (file (lent screen-before)) - slotOrder)
-  table-right = table-fits ∙ ap (λ (m : ℕ). 2 ^ (m - slotOrder)) (sym (good (past-file screen-before) .size))
+  fits : wrongSizes slotOrder (found (lent past-screen) .size) (heapOf (arena (lent past-screen)) (table (lent past-screen))) ≡ false
+  fits = order-this _ _ _ _ (c .before .order-of .ensures) (c .if4 .left) (low (past-file past-screen))
 
 -- past them all
-module _ (c : tie.Else6) where
-  abbrev past-table : tie.Else5
-  past-table = c .before
+module _ (c : tie.Else5) where
+  abbrev past-sizes : tie.Else4
+  past-sizes = c .before
 
   abbrev at-screen : tie.Joined2
-  at-screen = screen-before past-table
+  at-screen = past-screen past-sizes
 
   runnable :
       let j = lent at-screen in
       Runnable (found j .size) (file j) (arena j) (table j) (answers j)
   runnable =
       let g = good (past-file at-screen) in
-      record {
-        judged = g .judged;
-        same = g .size;
-        size = arena-fits (past-arena past-table);
-        slots = table-fits past-table;
-        room = omega (arith, c .if6 .left, g .count);
-      }
+      record { judged = g .judged; same = g .size; fits = fits past-sizes; room = omega (arith, c .if5 .left, g .count) }
 
 judge-requires : tie.Need-judge-requires
 judge-requires c κs = search needs
@@ -140,59 +118,43 @@ returns-2 c =
     (screen-full (panel j) (file j) (found j .count) (g .count) (c .before .before .if2 .taken) (c .before .if3 .taken))
     (c .refused2 .result) (c .refused2 .ensures)
 
-size-of-requires : tie.Need-size-of-requires
-size-of-requires c κs = high (past-file c)
-
-cast-if4 : tie.Need-cast-if4
-cast-if4 c = search needs
+order-of-requires : tie.Need-order-of-requires
+order-of-requires c κs = omega arith
 
 refused-requires-3 : tie.Need-refused-requires-3
 refused-requires-3 c κs = search needs
 
+same-length : tie.Need-same-length
+same-length c = search needs
+
+same-length-2 : tie.Need-same-length-2
+same-length-2 c = search needs
+
 returns-3 : tie.Need-returns-3
 returns-3 c =
-    let p = c .before .before .before in
+    let p = c .before .before .before .before .before in
     let j = lent p in
     let g = good (past-file p) in
-    by-arena (panel j) (file j) (arena j) (table j) (answers j) (g .judged) (listed p)
-    (λ z. c .before .if4 .taken (z ∙ (ap (λ (m : ℕ). 2 ^ m) (g .size) ∙ sym (c .before .before .size-of .ensures))))
-    (c .refused3 .result) (c .refused3 .ensures)
-
-sub-size-of : tie.Need-sub-size-of
-sub-size-of c = omega (arith, low (past-file (past-screen c)))
-
-size-of-requires-2 : tie.Need-size-of-requires-2
-size-of-requires-2 c κs = omega (arith, high (past-file (past-screen c)))
-
-cast-if5 : tie.Need-cast-if5
-cast-if5 c = search needs
+    let wrong = order-other _ (found j .size) _ _ (c .before .before .order-of .ensures) (c .before .if4 .taken) in
+    by-sizes (panel j) (file j) (arena j) (table j) (answers j) (g .judged) (listed p) (rw (g .size) wrong) (c .refused3 .result) (c .refused3 .ensures)
 
 refused-requires-4 : tie.Need-refused-requires-4
 refused-requires-4 c κs = search needs
 
+same-length-3 : tie.Need-same-length-3
+same-length-3 c = search needs
+
+same-length-4 : tie.Need-same-length-4
+same-length-4 c = search needs
+
 returns-4 : tie.Need-returns-4
 returns-4 c =
-    let a = c .before .before .before in
-    let p = past-screen a in
+    let s = c .before .before in
+    let p = past-screen s in
     let j = lent p in
     let g = good (past-file p) in
-    by-table (panel j) (file j) (arena j) (table j) (answers j) (g .judged) (listed p) (arena-right a)
-    (λ z. c .before .if5 .taken (z ∙ (ap (λ (m : ℕ). 2 ^ (m - slotOrder)) (g .size) ∙ sym (c .before .before .size-of2 .ensures))))
+    by-room (panel j) (file j) (arena j) (table j) (answers j) (g .judged) (listed p) (rw (g .size) (fits s)) (omega (arith, c .before .if5 .taken, g .count))
     (c .refused4 .result) (c .refused4 .ensures)
-
-refused-requires-5 : tie.Need-refused-requires-5
-refused-requires-5 c κs = search needs
-
-returns-5 : tie.Need-returns-5
-returns-5 c =
-    let t = c .before .before in
-    let a = past-arena t in
-    let p = past-screen a in
-    let j = lent p in
-    let g = good (past-file p) in
-    by-room (panel j) (file j) (arena j) (table j) (answers j) (g .judged) (listed p) (arena-right a) (table-right t)
-    (omega (arith, c .before .if6 .taken, g .count))
-    (c .refused5 .result) (c .refused5 .ensures)
 
 carry-out-requires : tie.Need-carry-out-requires
 carry-out-requires c κs = runnable (c .before .before .before)
@@ -202,7 +164,7 @@ module _ (c : tie.After-slice-known6) where
   abbrev done : tie.After-carry-out
   done = c .before .before .before .before .before .before
 
-  abbrev past-all : tie.Else6
+  abbrev past-all : tie.Else5
   past-all = done .before .before .before .before
 
 cast-count : tie.Need-cast-count
@@ -211,17 +173,17 @@ cast-count c =
     let g = good (past-file p) in
     omega (arith, few-records (file (lent p)) (g .judged), g .count)
 
-same-length : tie.Need-same-length
-same-length c = search needs
+same-length-5 : tie.Need-same-length-5
+same-length-5 c = search needs
 
-same-length-2 : tie.Need-same-length-2
-same-length-2 c = search needs
+same-length-6 : tie.Need-same-length-6
+same-length-6 c = search needs
 
-same-length-3 : tie.Need-same-length-3
-same-length-3 c = search needs
+same-length-7 : tie.Need-same-length-7
+same-length-7 c = search needs
 
-returns-6 : tie.Need-returns-6
-returns-6 c =
+returns-5 : tie.Need-returns-5
+returns-5 c =
     let p = at-screen (past-all c) in
     let j = lent p in
     let k = done c .carry-out in
@@ -232,26 +194,5 @@ returns-6 c =
 pub run-by-spec : {M : Type 1} → statement M
 run-by-spec =
     tie.close
-    (tie.spec
-    judge-requires
-    refused-requires
-    returns
-    refused-requires-2
-    returns-2
-    size-of-requires
-    cast-if4
-    refused-requires-3
-    returns-3
-    sub-size-of
-    size-of-requires-2
-    cast-if5
-    refused-requires-4
-    returns-4
-    refused-requires-5
-    returns-5
-    carry-out-requires
-    cast-count
-    same-length
-    same-length-2
-    same-length-3
-    returns-6)
+    (tie.spec judge-requires refused-requires returns refused-requires-2 returns-2 order-of-requires refused-requires-3 same-length same-length-2 returns-3
+    refused-requires-4 same-length-3 same-length-4 returns-4 carry-out-requires cast-count same-length-5 same-length-6 same-length-7 returns-5)

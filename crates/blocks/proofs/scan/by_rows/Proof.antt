@@ -27,23 +27,26 @@ use Rattle.blocks.proofs.scan.by_rows.Statement.{statement}
 use Rattle.blocks.proofs.scan.by_rows.Tie as tie
 
 abbrev Inv-block : tie.InvT-block
-Inv-block table m found₀ i x e slots from to k₀ found k =
-    (found ≡ false) × (from ≡ floor (e - 4) i) × (to ≡ floor (e - 4) i + 2 ^ (e - 4)) × (to ≤ length table) × (from ≤ k) × (k ≤ to)
+Inv-block table t m found₀ i x e slots from to k₀ found k =
+    (found ≡ false) × (from ≡ floor (e - t) i) × (to ≡ floor (e - t) i + 2 ^ (e - t)) × (to ≤ length table) × (from ≤ k) × (k ≤ to)
     × ((k - from) % 16 ≡ 0) × ((j : ℕ) → j < k → from ≤ j → getD table j 0 ≡ e)
 
 abbrev μ-block : tie.MeasureT-block
-μ-block table m found₀ i x e slots from to k₀ found k = to - k
+μ-block table t m found₀ i x e slots from to k₀ found k = to - k
 
 abbrev Inv-scan : tie.InvT-scan
-Inv-scan table m found₀ i₀ found i = (found ≡ false) × (i ≤ length table) × (i % 16 ≡ 0) × ((j : ℕ) → j < i → Good 4 m table j)
+Inv-scan table t m found₀ i₀ found i = (found ≡ false) × (i ≤ length table) × (i % 16 ≡ 0) × ((j : ℕ) → j < i → Good t m table j)
 
 abbrev μ-scan : tie.MeasureT-scan
-μ-scan table m found₀ i₀ found i = length table - i
+μ-scan table t m found₀ i₀ found i = length table - i
 
--- in the outer loop: the table, the order, the slot, and what is known of the slots before it
+-- in the outer loop: the table, the orders of a slot and of the arena, the slot, and what is known of the slots before it
 module _ (c : tie.In-scan Inv-block μ-block Inv-scan μ-scan) where
   abbrev table : List ℕ
   table = now (c .before .before .before .args .table)
+
+  abbrev t : ℕ
+  t = c .before .before .before .args .t
 
   abbrev top : ℕ
   top = c .before .before .before .args .m
@@ -51,17 +54,17 @@ module _ (c : tie.In-scan Inv-block μ-block Inv-scan μ-scan) where
   abbrev slot : ℕ
   slot = c .before .scan .i
 
-  top-high : 4 + 4 ≤ top
-  top-high = c .before .before .before .pre .0
+  top-high : t + 4 ≤ top
+  top-high = c .before .before .before .pre .1
 
-  slots-are : length table ≡ 2 ^ (top - 4)
-  slots-are = c .before .before .before .pre .2
+  slots-are : length table ≡ 2 ^ (top - t)
+  slots-are = c .before .before .before .pre .3
 
-  passed : (j : ℕ) → j < slot → Good 4 top table j
+  passed : (j : ℕ) → j < slot → Good t top table j
   passed = c .before .scan .inv .3
 
   row-inside : slot + 16 ≤ length table
-  row-inside = omega (arith, whole-rows (top - 4) (omega (arith, top-high)), slots-are, c .before .scan .inv .2, c .scan-test .taken)
+  row-inside = omega (arith, whole-rows (top - t) (omega (arith, top-high)), slots-are, c .before .scan .inv .2, c .scan-test .taken)
 
 -- where the blocks of a row lie in it
 module _ (c : tie.Then1 Inv-block μ-block Inv-scan μ-scan) where
@@ -77,23 +80,24 @@ module _ (c : tie.Then1 Inv-block μ-block Inv-scan μ-scan) where
   entry-at : (j : ℕ) → j < 16 → getD row j 0 ≡ getD (table at-row) (slot at-row + j) 0
   entry-at = part-entry (table at-row) (slot at-row) 16
 
-  first : getD row 0 0 ≤ 4 + 4
+  first : getD row 0 0 ≤ t at-row + 4
   first =
       let at : getD row 0 0 ≡ getD (table at-row) (slot at-row) 0 = rw add-zero at (entry-at 0 (omega arith)) in
       omega (arith, c .before .wide .ensures, c .if1 .taken)
 
-  passed-row : damagedBy 4 8 row ≡ false → (j : ℕ) → slot at-row ≤ j → j < slot at-row + 16 → Good 4 (top at-row) (table at-row) j
+  passed-row : damagedBy (t at-row) (t at-row + 4) row ≡ false → (j : ℕ) → slot at-row ≤ j → j < slot at-row + 16
+      → Good (t at-row) (top at-row) (table at-row) j
   passed-row d j lo hi =
-      let good = row-good 4 (top at-row) (table at-row) row (slot at-row) sixteen (at-row .before .scan .inv .2) entry-at (top-high at-row) d in
+      let good = row-good (t at-row) (top at-row) (table at-row) row (slot at-row) sixteen (at-row .before .scan .inv .2) entry-at (top-high at-row) d in
       rw (add-sub-of-le lo) at (good (j - slot at-row) (omega arith))
 
-  found-damage : damagedBy 4 8 row ≡ true → true ≡ damagedBy 4 (top at-row) (table at-row)
-  found-damage d = go (damagedBy 4 (top at-row) (table at-row)) refl
+  found-damage : damagedBy (t at-row) (t at-row + 4) row ≡ true → true ≡ damagedBy (t at-row) (top at-row) (table at-row)
+  found-damage d = go (damagedBy (t at-row) (top at-row) (table at-row)) refl
     where
-      go : (b : Bool) → damagedBy 4 (top at-row) (table at-row) ≡ b → true ≡ b
+      go : (b : Bool) → damagedBy (t at-row) (top at-row) (table at-row) ≡ b → true ≡ b
       go true q = refl
       go false q =
-          let u = row-undamaged 4 (top at-row) (table at-row) row (slot at-row) sixteen (at-row .before .scan .inv .2) entry-at in
+          let u = row-undamaged (t at-row) (top at-row) (table at-row) row (slot at-row) sixteen (at-row .before .scan .inv .2) entry-at in
           absurd (true≢false (sym d ∙ u first (row-inside at-row) q))
 
 -- where the block is larger: the entry, and the range round the slot
@@ -107,27 +111,31 @@ module _ (c : tie.Else3 Inv-block μ-block Inv-scan μ-scan) where
   abbrev entry : ℕ
   entry = c .before .before .wide .result
 
+  -- how far it is above the order of a slot
+  abbrev levels : ℕ
+  levels = entry - t turn
+
   entry-is : entry ≡ byte
   entry-is = c .before .before .wide .ensures
 
-  large : 8 < entry
+  large : t turn + 4 < entry
   large = c .before .if1 .left
 
   taken : entry ≡ 0 → ⊥
   taken z = omega (arith, large)
 
-  ends : floor (entry - 4) (slot turn) + 2 ^ (entry - 4) ≤ length (table turn)
-  ends = rw (slots-are turn) (floor-end (entry - 4) _ (slot turn) (omega (arith, c .if3 .left)) (rw (slots-are turn) at (turn .scan-test .taken)))
+  ends : floor levels (slot turn) + 2 ^ levels ≤ length (table turn)
+  ends = rw (slots-are turn) (floor-end levels _ (slot turn) (omega (arith, c .if3 .left)) (rw (slots-are turn) at (turn .scan-test .taken)))
 
-  rows : 2 ^ (entry - 4) % 16 ≡ 0
-  rows = whole-rows (entry - 4) (omega (arith, large))
+  rows : 2 ^ levels % 16 ≡ 0
+  rows = whole-rows levels (omega (arith, large))
 
 -- its bounds, as the code computes them
 module _ (c : tie.After-slots-of Inv-block μ-block Inv-scan μ-scan) where
   abbrev from : ℕ
   from = slot (turn (c .before)) / c .slots-of .result * c .slots-of .result
 
-  from-is : from ≡ floor (entry (c .before) - 4) (slot (turn (c .before)))
+  from-is : from ≡ floor (levels (c .before)) (slot (turn (c .before)))
   unfolding floor
   from-is = ap (λ (x : ℕ). slot (turn (c .before)) / x * x) (c .slots-of .ensures)
 
@@ -142,7 +150,7 @@ module _ (c : tie.In-block Inv-block μ-block Inv-scan μ-scan) where
   abbrev slots : List ℕ
   slots = table (turn order)
 
-  row-ends : range .block .at + 16 ≤ floor (entry order - 4) (slot (turn order)) + 2 ^ (entry order - 4)
+  row-ends : range .block .at + 16 ≤ floor (levels order) (slot (turn order)) + 2 ^ levels order
   row-ends = let inv = range .block .inv in omega (arith, rows order, inv .6, inv .1, inv .2, c .block-test .taken)
 
   -- what is said of the part is said of the table
@@ -159,6 +167,9 @@ shared-slice-read-x c = omega arith
 wide-requires : tie.Need-wide-requires Inv-block μ-block Inv-scan μ-scan
 wide-requires c κs = search needs
 
+add-if1 : tie.Need-add-if1 Inv-block μ-block Inv-scan μ-scan
+add-if1 c = omega arith
+
 add-end : tie.Need-add-end Inv-block μ-block Inv-scan μ-scan
 add-end c = omega (arith, row-inside (at-row c))
 
@@ -172,7 +183,7 @@ part-row-damaged-end : tie.Need-part-row-damaged-end Inv-block μ-block Inv-scan
 part-row-damaged-end c = row-inside (at-row c)
 
 row-damaged-requires : tie.Need-row-damaged-requires Inv-block μ-block Inv-scan μ-scan
-row-damaged-requires c κs = sixteen (c .before)
+row-damaged-requires c κs = (omega arith, omega arith, sixteen (c .before))
 
 scan-less : tie.Need-scan-less Inv-block μ-block Inv-scan μ-scan
 scan-less c = omega (arith, row-inside (at-row (c .before .before .before)))
@@ -183,7 +194,7 @@ scan-again c =
     let o = at-row r in
     let good = passed-row r (sym (c .before .row-damaged .ensures) ∙ c .if2 .left) in
     let inv = o .before .scan .inv in
-    (inv .0, row-inside o, omega (arith, inv .2), below-both (Good 4 (top o) (table o)) (slot o) (slot o + 16) (passed o) good)
+    (inv .0, row-inside o, omega (arith, inv .2), below-both (Good (t o) (top o) (table o)) (slot o) (slot o + 16) (passed o) good)
 
 slots-of-requires : tie.Need-slots-of-requires Inv-block μ-block Inv-scan μ-scan
 slots-of-requires c κs = omega arith
@@ -246,26 +257,26 @@ scan-less-2 : tie.Need-scan-less-2 Inv-block μ-block Inv-scan μ-scan
 scan-less-2 c =
     let o = c .before .before .before in
     let inv = c .before .block .inv in
-    omega (arith, inv .2, inv .3, lt-floor (entry o - 4) (slot (turn o)), turn o .scan-test .taken)
+    omega (arith, inv .2, inv .3, lt-floor (levels o) (slot (turn o)), turn o .scan-test .taken)
 
 scan-again-2 : tie.Need-scan-again-2 Inv-block μ-block Inv-scan μ-scan
 scan-again-2 c =
     let o = c .before .before .before in
     let u = turn o in
     let inv = c .before .block .inv in
-    let w : Whole 4 (top u) (table u) (slot u) (entry o) =
+    let w : Whole (t u) (top u) (table u) (slot u) (entry o) =
     record { low = omega (arith, large o); high = o .if3 .left; entries = λ k lo hi. inv .7 k (omega (arith, inv .2)) (omega (arith, inv .1)) } in
-    let block = whole-good 4 (top u) (table u) (slot u) (entry o) (taken o) w in
-    let low = floor-le (entry o - 4) (slot u) in
-    let begins = floor-rows (entry o - 4) (slot u) (omega (arith, large o)) in (
+    let block = whole-good (t u) (top u) (table u) (slot u) (entry o) (taken o) w in
+    let low = floor-le (levels o) (slot u) in
+    let begins = floor-rows (levels o) (slot u) (omega (arith, large o)) in (
       inv .0,
       inv .3,
       omega (arith, inv .2, rows o),
-      below-both (Good 4 (top u) (table u)) (slot u) _ (passed u) (λ j lo hi. block j (omega arith) (omega (arith, inv .2))),
+      below-both (Good (t u) (top u) (table u)) (slot u) _ (passed u) (λ j lo hi. block j (omega arith) (omega (arith, inv .2))),
     )
 
 returns : tie.Need-returns Inv-block μ-block Inv-scan μ-scan
-returns c = c .before .scan .inv .0 ∙ sym (undamaged 4 _ _ (λ j l. c .before .scan .inv .3 j (omega arith)))
+returns c = c .before .scan .inv .0 ∙ sym (undamaged _ _ _ (λ j l. c .before .scan .inv .3 j (omega arith)))
 
 returns-2 : tie.Need-returns-2 Inv-block μ-block Inv-scan μ-scan
 returns-2 c = found-damage (c .before .before .before) (sym (c .before .row-damaged .ensures) ∙ c .if2 .taken)
@@ -275,8 +286,9 @@ returns-3 c =
     let w = c .before .before in
     let u = w .before .before in
     let big = c .before .if1 .left in
-    sym (damaged-at 4 (top u) (table u) (slot u) (w .wide .result) (u .scan-test .taken) (w .wide .ensures)
-    (order-bad 4 _ _ _ _ (λ z. omega (arith, big)) (rw (le-leb 4 (w .wide .result) (omega (arith, big)), lt-leb (w .wide .result) (top u) (c .if3 .taken)))))
+    let e = w .wide .result in
+    sym (damaged-at (t u) (top u) (table u) (slot u) e (u .scan-test .taken) (w .wide .ensures)
+    (order-bad (t u) _ _ _ _ (λ z. omega (arith, big)) (rw (le-leb (t u) e (omega (arith, big)), lt-leb e (top u) (c .if3 .taken)))))
 
 returns-4 : tie.Need-returns-4 Inv-block μ-block Inv-scan μ-scan
 returns-4 c =
@@ -287,8 +299,8 @@ returns-4 c =
     let k = range r .block .at in
     let differs = sym (row-alike r) ∙ sym (c .before .alike .ensures) ∙ not-true _ (c .if4 .taken) in
     let other = ap (λ (x : ℕ). allFree (hasEntry (table u) x) k 16) (entry-is o) ∙ differs in
-    sym (damaged-at 4 (top u) (table u) (slot u) (entry o) (u .scan-test .taken) (entry-is o)
-    (run-bad 4 (top u) (table u) (slot u) (entry o) k 16 (taken o) (omega (arith, inv .1, inv .4)) (row-ends r) other))
+    sym (damaged-at (t u) (top u) (table u) (slot u) (entry o) (u .scan-test .taken) (entry-is o)
+    (run-bad (t u) (top u) (table u) (slot u) (entry o) k 16 (taken o) (omega (arith, inv .1, inv .4)) (row-ends r) other))
 
 pub by-rows-spec : {M : Type 1} → statement M
 by-rows-spec =
@@ -301,6 +313,7 @@ by-rows-spec =
     scan-holds
     shared-slice-read-x
     wide-requires
+    add-if1
     add-end
     sub-row-damaged
     part-row-damaged-start

@@ -24,23 +24,26 @@ use Rattle.blocks.proofs.scan.by_slots.Statement.{statement}
 use Rattle.blocks.proofs.scan.by_slots.Tie as tie
 
 abbrev Inv-block : tie.InvT-block
-Inv-block table m found₀ i x e slots from to k₀ found k =
-    (found ≡ false) × (from ≡ floor (e - 4) i) × (to ≡ floor (e - 4) i + 2 ^ (e - 4)) × (to ≤ length table) × (from ≤ k) × (k ≤ to)
+Inv-block table t m found₀ i x e slots from to k₀ found k =
+    (found ≡ false) × (from ≡ floor (e - t) i) × (to ≡ floor (e - t) i + 2 ^ (e - t)) × (to ≤ length table) × (from ≤ k) × (k ≤ to)
     × ((k - from) % 2 ≡ 0) × ((j : ℕ) → j < k → from ≤ j → getD table j 0 ≡ e)
 
 abbrev μ-block : tie.MeasureT-block
-μ-block table m found₀ i x e slots from to k₀ found k = to - k
+μ-block table t m found₀ i x e slots from to k₀ found k = to - k
 
 abbrev Inv-scan : tie.InvT-scan
-Inv-scan table m found₀ i₀ found i = (found ≡ false) × (i ≤ length table) × ((j : ℕ) → j < i → Good 4 m table j)
+Inv-scan table t m found₀ i₀ found i = (found ≡ false) × (i ≤ length table) × ((j : ℕ) → j < i → Good t m table j)
 
 abbrev μ-scan : tie.MeasureT-scan
-μ-scan table m found₀ i₀ found i = length table - i
+μ-scan table t m found₀ i₀ found i = length table - i
 
--- in the outer loop: the table, the order, the slot, and what is known of the slots before it
+-- in the outer loop: the table, the orders of a slot and of the arena, the slot, and what is known of the slots before it
 module _ (c : tie.In-scan Inv-block μ-block Inv-scan μ-scan) where
   abbrev table : List ℕ
   table = now (c .before .before .before .args .table)
+
+  abbrev t : ℕ
+  t = c .before .before .before .args .t
 
   abbrev top : ℕ
   top = c .before .before .before .args .m
@@ -48,11 +51,14 @@ module _ (c : tie.In-scan Inv-block μ-block Inv-scan μ-scan) where
   abbrev slot : ℕ
   slot = c .before .scan .i
 
-  passed : (j : ℕ) → j < slot → Good 4 top table j
+  passed : (j : ℕ) → j < slot → Good t top table j
   passed = c .before .scan .inv .2
 
-  top-low : 4 ≤ top
-  top-low = c .before .before .before .pre .0
+  t-positive : t ≡ 0 → ⊥
+  t-positive z = omega (arith, c .before .before .before .pre .0)
+
+  top-low : t ≤ top
+  top-low = c .before .before .before .pre .1
 
 -- where the entry is an order: the entry, and the range round the slot
 module _ (c : tie.Else2 Inv-block μ-block Inv-scan μ-scan) where
@@ -62,56 +68,60 @@ module _ (c : tie.Else2 Inv-block μ-block Inv-scan μ-scan) where
   abbrev entry : ℕ
   entry = c .before .before .wide .result
 
+  -- how far it is above the order of a slot
+  abbrev levels : ℕ
+  levels = entry - t turn
+
   entry-is : entry ≡ getD (table turn) (slot turn) 0
   entry-is = c .before .before .wide .ensures
 
-  is-order : leb 4 entry && leb entry (top turn) ≡ true
+  is-order : leb (t turn) entry && leb entry (top turn) ≡ true
   is-order = sym (c .before .is-order .ensures) ∙ not-false _ (c .if2 .left)
 
-  low-order : 4 ≤ entry
-  low-order = leb-true 4 entry (and-left _ _ is-order)
+  low-order : t turn ≤ entry
+  low-order = leb-true (t turn) entry (and-left _ _ is-order)
 
   high-order : entry ≤ top turn
-  high-order = leb-true entry (top turn) (and-right (leb 4 entry) _ is-order)
+  high-order = leb-true entry (top turn) (and-right (leb (t turn) entry) _ is-order)
 
   -- the entry is no single slot's, so the range has pairs of slots
-  pairs : 2 ^ (entry - 4) % 2 ≡ 0
+  pairs : 2 ^ levels % 2 ≡ 0
   pairs =
       let e = c .before .before .before in
-      let other : entry ≡ 4 → ⊥ = λ z. not-slot 4 _ (sym (e .before .is-single .ensures) ∙ e .if1 .left) (sym entry-is ∙ z) in
-      elim (decLt 4 entry) [
-        | yes l ↦ omega (arith, pow-split 1 (entry - 4) (omega arith))
+      let other : entry ≡ t turn → ⊥ = λ z. not-slot (t turn) _ (sym (e .before .is-single .ensures) ∙ e .if1 .left) (sym entry-is ∙ z) in
+      elim (decLt (t turn) entry) [
+        | yes l ↦ omega (arith, pow-split 1 levels (omega arith))
         | no l ↦ absurd (other (omega (arith, low-order)))
       ]
 
   taken : entry ≡ 0 → ⊥
-  taken z = omega (arith, low-order)
+  taken z = t-positive turn (omega (arith, low-order))
 
-  ends : floor (entry - 4) (slot turn) + 2 ^ (entry - 4) ≤ length (table turn)
+  ends : floor levels (slot turn) + 2 ^ levels ≤ length (table turn)
   ends =
-      let len = turn .before .before .before .pre .2 in
-      rw len (floor-end (entry - 4) _ (slot turn) (omega (arith, high-order)) (rw len at (turn .scan-test .taken)))
+      let len = turn .before .before .before .pre .3 in
+      rw len (floor-end levels _ (slot turn) (omega (arith, high-order)) (rw len at (turn .scan-test .taken)))
 
 -- its bounds, as the code computes them
 module _ (c : tie.After-slots-of Inv-block μ-block Inv-scan μ-scan) where
   abbrev from : ℕ
   from = slot (turn (c .before)) / c .slots-of .result * c .slots-of .result
 
-  from-is : from ≡ floor (entry (c .before) - 4) (slot (turn (c .before)))
+  from-is : from ≡ floor (levels (c .before)) (slot (turn (c .before)))
   unfolding floor
   from-is = ap (λ (x : ℕ). slot (turn (c .before)) / x * x) (c .slots-of .ensures)
 
   -- slot k of the range has another entry
-  torn : (k : ℕ) → floor (entry (c .before) - 4) (slot (turn (c .before))) ≤ k
-      → k < floor (entry (c .before) - 4) (slot (turn (c .before))) + 2 ^ (entry (c .before) - 4)
+  torn : (k : ℕ) → floor (levels (c .before)) (slot (turn (c .before))) ≤ k
+      → k < floor (levels (c .before)) (slot (turn (c .before))) + 2 ^ levels (c .before)
       → (getD (table (turn (c .before))) k 0 ≡ getD (table (turn (c .before))) (slot (turn (c .before))) 0 → ⊥)
-      → true ≡ damagedBy 4 (top (turn (c .before))) (table (turn (c .before)))
+      → true ≡ damagedBy (t (turn (c .before))) (top (turn (c .before))) (table (turn (c .before)))
   torn k lo hi n =
       let o = c .before in
       let u = turn o in
       let w = entry-is o in
-      sym (damaged-at 4 (top u) (table u) (slot u) (entry o) (u .scan-test .taken) w
-      (torn-bad 4 (top u) (table u) (slot u) (entry o) k (taken o) (low-order o) (high-order o) lo hi (λ q. n (q ∙ w))))
+      sym (damaged-at (t u) (top u) (table u) (slot u) (entry o) (u .scan-test .taken) w
+      (torn-bad (t u) (top u) (table u) (slot u) (entry o) k (taken o) (low-order o) (high-order o) lo hi (λ q. n (q ∙ w))))
 
 -- two slots of it
 module _ (c : tie.Else3 Inv-block μ-block Inv-scan μ-scan) where
@@ -121,7 +131,7 @@ module _ (c : tie.Else3 Inv-block μ-block Inv-scan μ-scan) where
   abbrev order : tie.Else2 Inv-block μ-block Inv-scan μ-scan
   order = range .before .before
 
-  pair : range .block .k + 2 ≤ floor (entry order - 4) (slot (turn order)) + 2 ^ (entry order - 4)
+  pair : range .block .k + 2 ≤ floor (levels order) (slot (turn order)) + 2 ^ levels order
   pair =
       let inv = range .block .inv in
       omega (arith, pairs order, inv .1, inv .2, inv .6, c .before .before .block-test .taken)
@@ -144,7 +154,7 @@ scan-less c = omega arith
 scan-again : tie.Need-scan-again Inv-block μ-block Inv-scan μ-scan
 scan-again c =
     let o = c .before .before .before in
-    let one = single-good 4 (top o) (table o) (slot o) (λ z. omega arith) (top-low o) (sym (c .before .is-single .ensures) ∙ c .if1 .taken) in
+    let one = single-good (t o) (top o) (table o) (slot o) (t-positive o) (top-low o) (sym (c .before .is-single .ensures) ∙ c .if1 .taken) in
     (o .before .scan .inv .0, omega arith, below-more _ _ (passed o) one)
 
 wide-requires : tie.Need-wide-requires Inv-block μ-block Inv-scan μ-scan
@@ -154,7 +164,7 @@ is-order-requires : tie.Need-is-order-requires Inv-block μ-block Inv-scan μ-sc
 is-order-requires c κs = search needs
 
 slots-of-requires : tie.Need-slots-of-requires Inv-block μ-block Inv-scan μ-scan
-slots-of-requires c κs = (low-order c, omega (arith, high-order c, turn c .before .before .before .pre .1))
+slots-of-requires c κs = (low-order c, omega (arith, high-order c, turn c .before .before .before .pre .2))
 
 div-from : tie.Need-div-from Inv-block μ-block Inv-scan μ-scan
 div-from c = rw (c .slots-of .ensures) (pow-pos _)
@@ -202,30 +212,30 @@ scan-less-2 : tie.Need-scan-less-2 Inv-block μ-block Inv-scan μ-scan
 scan-less-2 c =
     let o = c .before .before .before in
     let inv = c .before .block .inv in
-    omega (arith, inv .2, inv .3, lt-floor (entry o - 4) (slot (turn o)), turn o .scan-test .taken)
+    omega (arith, inv .2, inv .3, lt-floor (levels o) (slot (turn o)), turn o .scan-test .taken)
 
 scan-again-2 : tie.Need-scan-again-2 Inv-block μ-block Inv-scan μ-scan
 scan-again-2 c =
     let o = c .before .before .before in
     let u = turn o in
     let inv = c .before .block .inv in
-    let w : Whole 4 (top u) (table u) (slot u) (entry o) =
+    let w : Whole (t u) (top u) (table u) (slot u) (entry o) =
     record { low = low-order o; high = high-order o; entries = λ k lo hi. inv .7 k (omega (arith, inv .2)) (omega (arith, inv .1)) } in
-    let block = whole-good 4 (top u) (table u) (slot u) (entry o) (taken o) w in
-    let low = floor-le (entry o - 4) (slot u) in
-    (inv .0, inv .3, below-both (Good 4 (top u) (table u)) (slot u) _ (passed u) (λ j lo hi. block j (omega arith) (omega (arith, inv .2))))
+    let block = whole-good (t u) (top u) (table u) (slot u) (entry o) (taken o) w in
+    let low = floor-le (levels o) (slot u) in
+    (inv .0, inv .3, below-both (Good (t u) (top u) (table u)) (slot u) _ (passed u) (λ j lo hi. block j (omega arith) (omega (arith, inv .2))))
 
 returns : tie.Need-returns Inv-block μ-block Inv-scan μ-scan
-returns c = c .before .scan .inv .0 ∙ sym (undamaged 4 _ _ (λ j l. c .before .scan .inv .2 j (omega arith)))
+returns c = c .before .scan .inv .0 ∙ sym (undamaged _ _ _ (λ j l. c .before .scan .inv .2 j (omega arith)))
 
 returns-2 : tie.Need-returns-2 Inv-block μ-block Inv-scan μ-scan
 returns-2 c =
     let w = c .before .before in
     let u = w .before .before .before .before in
-    let none = not-free 4 _ (sym (w .before .before .is-single .ensures) ∙ w .before .if1 .left) in
+    let none = not-free (t u) _ (sym (w .before .before .is-single .ensures) ∙ w .before .if1 .left) in
     let no-order = sym (c .before .is-order .ensures) ∙ not-true _ (c .if2 .taken) in
-    sym (damaged-at 4 (top u) (table u) (slot u) (w .wide .result) (u .scan-test .taken) (w .wide .ensures)
-    (order-bad 4 _ _ _ _ (λ z. none (sym (w .wide .ensures) ∙ z)) no-order))
+    sym (damaged-at (t u) (top u) (table u) (slot u) (w .wide .result) (u .scan-test .taken) (w .wide .ensures)
+    (order-bad (t u) _ _ _ _ (λ z. none (sym (w .wide .ensures) ∙ z)) no-order))
 
 returns-3 : tie.Need-returns-3 Inv-block μ-block Inv-scan μ-scan
 returns-3 c =

@@ -1,5 +1,5 @@
 -- `in_a_row` meets its contract.
-use Prim.Native.Nat.{ℕ}
+use Prim.Native.Nat.{ℕ, _+_}
 use mathlib.Core.Bool.{_&&_}
 use mathlib.Core.Path.{ap, _∙_}
 use borrow.Author.Needs.{needs}
@@ -14,13 +14,17 @@ returns c = rw (eq-eqb _ _ (c .if1 .taken))
 wide-requires : tie.Need-wide-requires
 wide-requires c κs = search needs
 
+add-is-order : tie.Need-add-is-order
+add-is-order c = search needs
+
 is-order-requires : tie.Need-is-order-requires
 is-order-requires c κs = search needs
 
 returns-2 : tie.Need-returns-2
 returns-2 c =
-    let x = c .before .before .before .args .x in
-    rw (ne-eqb x 0 (c .before .before .if1 .left)) (c .is-order .ensures ∙ ap (λ (e : ℕ). leb 4 e && leb e 8) (c .before .wide .ensures))
+    let a = c .before .before .before .args in
+    rw (ne-eqb (a .x) 0 (c .before .before .if1 .left))
+    (c .is-order .ensures ∙ ap (λ (e : ℕ). leb (a .t) e && leb e (a .t + 4)) (c .before .wide .ensures))
 
 pub in-a-row-spec : {M : Type 1} → statement M
-in-a-row-spec = tie.close (tie.spec returns wide-requires is-order-requires returns-2)
+in-a-row-spec = tie.close (tie.spec returns wide-requires add-is-order is-order-requires returns-2)

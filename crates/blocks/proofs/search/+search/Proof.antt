@@ -27,21 +27,21 @@ use Rattle.blocks.proofs.search.is_exact.Reads as is-exact-reads
 use Rattle.blocks.proofs.search.key.Reads as key-reads
 use Rattle.blocks.proofs.search.search_row.Reads as search-row-reads
 use Rattle.blocks.proofs.search.uniform.Reads as uniform-reads
-use Rattle.blocks.proofs.wide.Reads as wide-reads
+use Rattle.common.proofs.wide.Reads as wide-reads
 use Rattle.blocks.proofs.search.+search.{statement}
 use Rattle.blocks.proofs.search.+search.Tie.{close}
 
 abbrev μ-search : Measures 1 search-kinds.ps ℕ
-μ-search κs a = a .1 .1 .0
+μ-search κs a = a .1 .1 .1 .0
 
 abbrev search-at : ℕ → In 1 search-kinds.ps
-search-at t = and 1 search-kinds.ps (is 1 search-kinds.ps μ-search t) search′.Pre
+search-at k = and 1 search-kinds.ps (is 1 search-kinds.ps μ-search k) search′.Pre
 
 abbrev search-below : ℕ → In 1 search-kinds.ps
-search-below t = and 1 search-kinds.ps (falls 1 search-kinds.ps _<_ μ-search t) search′.Pre
+search-below k = and 1 search-kinds.ps (falls 1 search-kinds.ps _<_ μ-search k) search′.Pre
 
 abbrev calls : ℕ → search-lts.Claims
-calls t = (
+calls k = (
   search-row-reads.Asked,
   search-row-reads.Learnt,
   wide-reads.Asked,
@@ -50,16 +50,19 @@ calls t = (
   uniform-reads.Learnt,
   key-reads.Asked,
   key-reads.Learnt,
-  search-below t,
+  search-below k,
   search′.Post,
   is-exact-reads.Asked,
   is-exact-reads.Learnt,
 )
 
--- what the search is given: the part, its first slot and order, and the order that is sought
-module _ (t : ℕ) (c : search-lts.Start (calls t) (search-at t) search′.Post) where
+-- what the search is given: the part, the order of a slot, the part's first slot and order, and the order that is sought
+module _ (k : ℕ) (c : search-lts.Start (calls k) (search-at k) search′.Post) where
   abbrev part : List ℕ
   part = now (c .args .part)
+
+  abbrev t : ℕ
+  t = c .args .t
 
   abbrev from : ℕ
   from = c .args .from
@@ -71,275 +74,283 @@ module _ (t : ℕ) (c : search-lts.Start (calls t) (search-at t) search′.Post)
   sought = c .args .e
 
   abbrev half : ℕ
-  half = 2 ^ (order - 1 - 4)
+  half = 2 ^ (order - 1 - t)
 
   -- the part is one of the table s
   abbrev In-table : List ℕ → Type 0
-  In-table s = PartOf 4 s from order part
+  In-table s = PartOf t s from order part
 
   abbrev answer : List ℕ → ℕ → ℕ
-  answer s at = keyOf (placeIn (freeIn s) 4 at (order - 1) sought)
+  answer s at = keyOf (placeIn (freeIn s) t at (order - 1) sought)
 
-  slots : length part ≡ 2 ^ (order - 4)
-  slots = c .pre .1 .3
+  slots : length part ≡ 2 ^ (order - t)
+  slots = c .pre .1 .4
 
-  inside : from + 2 ^ (order - 4) ≤ 65536
-  inside = c .pre .1 .4
+  inside : from + 2 ^ (order - t) ≤ 65536
+  inside = c .pre .1 .5
 
-  low : 4 ≤ sought
-  low = c .pre .1 .0
+  low : t ≤ sought
+  low = c .pre .1 .1
 
   high : sought ≤ order
-  high = c .pre .1 .1
+  high = c .pre .1 .2
 
 -- where it has more than a row, with x the entry of its first slot
-module _ (t : ℕ) (c : search-lts.After-wide (calls t) (search-at t) search′.Post) where
-  abbrev wider : search-lts.Start (calls t) (search-at t) search′.Post
+module _ (k : ℕ) (c : search-lts.After-wide (calls k) (search-at k) search′.Post) where
+  abbrev wider : search-lts.Start (calls k) (search-at k) search′.Post
   wider = c .before .before .before .before
 
   abbrev x : ℕ
   x = c .wide .result
 
-  first : x ≡ getD (part t wider) 0 0
+  first : x ≡ getD (part k wider) 0 0
   first = c .wide .ensures
 
-  rows : length (part t wider) % 16 ≡ 0
-  rows = ap (λ (n : ℕ). n % 16) (slots t wider) ∙ whole-rows (order t wider - 4) (omega (arith, c .before .before .if1 .left))
+  rows : length (part k wider) % 16 ≡ 0
+  rows = ap (λ (n : ℕ). n % 16) (slots k wider) ∙ whole-rows (order k wider - t k wider) (omega (arith, c .before .before .if1 .left))
 
 -- where it is told whether its slots are all free, or all taken
-module _ (t : ℕ) (c : search-lts.After-uniform (calls t) (search-at t) search′.Post) where
-  abbrev looked : search-lts.After-wide (calls t) (search-at t) search′.Post
+module _ (k : ℕ) (c : search-lts.After-uniform (calls k) (search-at k) search′.Post) where
+  abbrev looked : search-lts.After-wide (calls k) (search-at k) search′.Post
   looked = c .before .before
 
-  abbrev entire : search-lts.Start (calls t) (search-at t) search′.Post
-  entire = wider t looked
+  abbrev entire : search-lts.Start (calls k) (search-at k) search′.Post
+  entire = wider k looked
 
-  told : c .uniform .result ≡ leb (x t looked) 8 && allFree (asFree (part t entire) (eqb (x t looked) 0)) 0 (2 ^ (order t entire - 4))
+  told : c .uniform .result
+      ≡ leb (x k looked) (t k entire + 4) && allFree (asFree (part k entire) (eqb (x k looked) 0)) 0 (2 ^ (order k entire - t k entire))
   told =
       c .uniform .ensures
-      ∙ ap (λ (n : ℕ). leb (x t looked) 8 && allFree (asFree (part t entire) (eqb (x t looked) 0)) 0 n) (slots t entire)
+      ∙ ap (λ (n : ℕ). leb (x k looked) (t k entire + 4) && allFree (asFree (part k entire) (eqb (x k looked) 0)) 0 n) (slots k entire)
 
   -- they are
-  same : c .uniform .result ≡ true → allFree (asFree (part t entire) (eqb (x t looked) 0)) 0 (2 ^ (order t entire - 4)) ≡ true
-  same h = and-right (leb (x t looked) 8) _ (sym told ∙ h)
+  same : c .uniform .result ≡ true → allFree (asFree (part k entire) (eqb (x k looked) 0)) 0 (2 ^ (order k entire - t k entire)) ≡ true
+  same h = and-right (leb (x k looked) (t k entire + 4)) _ (sym told ∙ h)
 
   -- they are not
-  mixed : c .uniform .result ≡ false → (s : List ℕ) → In-table t entire s → allFree (freeIn s) (from t entire) (2 ^ (order t entire - 4)) ≡ false
-  mixed h s r = not-uniform r (x t looked) (first t looked) (sym told ∙ h)
+  mixed : c .uniform .result ≡ false → (s : List ℕ) → In-table k entire s
+      → allFree (freeIn s) (from k entire) (2 ^ (order k entire - t k entire)) ≡ false
+  mixed h s r = not-uniform r (x k looked) (first k looked) (sym told ∙ h)
 
 -- where it is searched by halves
-module _ (t : ℕ) (c : search-lts.Else5 (calls t) (search-at t) search′.Post) where
-  abbrev asked : search-lts.After-uniform (calls t) (search-at t) search′.Post
+module _ (k : ℕ) (c : search-lts.Else5 (calls k) (search-at k) search′.Post) where
+  abbrev asked : search-lts.After-uniform (calls k) (search-at k) search′.Post
   asked = c .before .before
 
-  abbrev whole : search-lts.Start (calls t) (search-at t) search′.Post
-  whole = entire t asked
+  abbrev whole : search-lts.Start (calls k) (search-at k) search′.Post
+  whole = entire k asked
 
-  above : 4 < order t whole
-  above = omega (arith, low t whole, high t whole, c .if5 .left)
+  above : t k whole < order k whole
+  above = omega (arith, low k whole, high k whole, c .if5 .left)
 
-  two : 2 ^ (order t whole - 4) ≡ half t whole + half t whole
-  two = two-halves 4 (order t whole) above
+  two : 2 ^ (order k whole - t k whole) ≡ half k whole + half k whole
+  two = two-halves (t k whole) (order k whole) above
 
-  half-is : length (part t whole) / 2 ≡ half t whole
-  half-is = omega (arith, slots t whole, two)
+  half-is : length (part k whole) / 2 ≡ half k whole
+  half-is = omega (arith, slots k whole, two)
 
-  halved : (s : List ℕ) → In-table t whole s → Halved (freeIn s) 4 (from t whole) (order t whole) (sought t whole)
+  halved : (s : List ℕ) → In-table k whole s → Halved (freeIn s) (t k whole) (from k whole) (order k whole) (sought k whole)
   halved s r = record {
-    low = low t whole;
-    below = omega (arith, high t whole, c .if5 .left);
+    low = low k whole;
+    below = omega (arith, high k whole, c .if5 .left);
     top = omega arith;
-    small = inside t whole;
-    not-free = mixed t asked (c .before .if3 .left) s r;
+    small = inside k whole;
+    not-free = mixed k asked (c .before .if3 .left) s r;
   }
 
 -- the left half, as a part of the same table, and its answer
-module _ (t : ℕ) (c : search-lts.After-search (calls t) (search-at t) search′.Post) where
-  abbrev split : search-lts.Else5 (calls t) (search-at t) search′.Post
+module _ (k : ℕ) (c : search-lts.After-search (calls k) (search-at k) search′.Post) where
+  abbrev split : search-lts.Else5 (calls k) (search-at k) search′.Post
   split = c .before .before
 
-  abbrev both : search-lts.Start (calls t) (search-at t) search′.Post
-  both = whole t split
+  abbrev both : search-lts.Start (calls k) (search-at k) search′.Post
+  both = whole k split
 
-  left-is : (s : List ℕ) → In-table t both s → c .search .result ≡ answer t both s (from t both)
+  left-is : (s : List ℕ) → In-table k both s → c .search .result ≡ answer k both s (from k both)
   left-is s r =
-      let n = length (part t both) / 2 in
-      let l = left-part r (take (n - 0) (part t both)) (above t split) (λ i lt. getD-take (n - 0) (part t both) i 0 (omega (arith, half-is t split))) in
+      let n = length (part k both) / 2 in
+      let l = left-part r (take (n - 0) (part k both)) (above k split) (λ i lt. getD-take (n - 0) (part k both) i 0 (omega (arith, half-is k split))) in
       c .search .ensures s l
 
 -- and the right one
-module _ (t : ℕ) (c : search-lts.After-search2 (calls t) (search-at t) search′.Post) where
-  abbrev on-left : search-lts.After-search (calls t) (search-at t) search′.Post
+module _ (k : ℕ) (c : search-lts.After-search2 (calls k) (search-at k) search′.Post) where
+  abbrev on-left : search-lts.After-search (calls k) (search-at k) search′.Post
   on-left = c .before .before .before .before
 
-  abbrev all : search-lts.Start (calls t) (search-at t) search′.Post
-  all = both t on-left
+  abbrev all : search-lts.Start (calls k) (search-at k) search′.Post
+  all = both k on-left
 
-  right-is : (s : List ℕ) → In-table t all s → c .search2 .result ≡ answer t all s (from t all + half t all)
+  right-is : (s : List ℕ) → In-table k all s → c .search2 .result ≡ answer k all s (from k all + half k all)
   right-is s r =
-      let p = part t all in
+      let p = part k all in
       let n = length p / 2 in
-      let d = split t on-left in
-      let o = half-is t d in
+      let d = split k on-left in
+      let o = half-is k d in
       let q = take (length p - n) (drop n p) in
-      let entry : (i : ℕ) → i < half t all → getD q i 0 ≡ getD p (half t all + i) 0 = λ i lt.
-      getD-take (length p - n) (drop n p) i 0 (omega (arith, o, slots t all, two t d)) ∙ getD-drop n p i 0 ∙ ap (λ (x : ℕ). getD p (x + i) 0) o in
-      let l = subst (λ (x : ℕ). PartOf 4 s (from t all + x) (order t all - 1) q) (sym o) (right-part r q (above t d) entry) in
-      c .search2 .ensures s l ∙ ap (λ (x : ℕ). answer t all s (from t all + x)) o
+      let entry : (i : ℕ) → i < half k all → getD q i 0 ≡ getD p (half k all + i) 0 = λ i lt.
+      getD-take (length p - n) (drop n p) i 0 (omega (arith, o, slots k all, two k d)) ∙ getD-drop n p i 0 ∙ ap (λ (x : ℕ). getD p (x + i) 0) o in
+      let l = subst (λ (x : ℕ). PartOf (t k all) s (from k all + x) (order k all - 1) q) (sym o) (right-part r q (above k d) entry) in
+      c .search2 .ensures s l ∙ ap (λ (x : ℕ). answer k all s (from k all + x)) o
 
-search-row-requires : (t : ℕ) → search-lts.Need-search-row-requires (calls t) (search-at t) search′.Post
-search-row-requires t c κs = let s = c .before .before in (low t s, high t s, c .if1 .taken, slots t s, inside t s)
+add-if1 : (k : ℕ) → search-lts.Need-add-if1 (calls k) (search-at k) search′.Post
+add-if1 k c = omega arith
 
-returns : (t : ℕ) → search-lts.Need-returns (calls t) (search-at t) search′.Post
-returns t c = c .search-row .ensures
+search-row-requires : (k : ℕ) → search-lts.Need-search-row-requires (calls k) (search-at k) search′.Post
+search-row-requires k c κs = let s = c .before .before in (omega arith, low k s, high k s, c .if1 .taken, omega arith, slots k s, inside k s)
 
-shared-slice-read-wide : (t : ℕ) → search-lts.Need-shared-slice-read-wide (calls t) (search-at t) search′.Post
-shared-slice-read-wide t c = let s = c .before .before .before in omega (arith, slots t s, pow-pos (order t s - 4))
+returns : (k : ℕ) → search-lts.Need-returns (calls k) (search-at k) search′.Post
+returns k c = c .search-row .ensures
 
-wide-requires : (t : ℕ) → search-lts.Need-wide-requires (calls t) (search-at t) search′.Post
-wide-requires t c κs = search needs
+shared-slice-read-wide : (k : ℕ) → search-lts.Need-shared-slice-read-wide (calls k) (search-at k) search′.Post
+shared-slice-read-wide k c = let s = c .before .before .before in omega (arith, slots k s, pow-pos (order k s - t k s))
 
-returns-2 : (t : ℕ) → search-lts.Need-returns-2 (calls t) (search-at t) search′.Post
-returns-2 t c s r =
+wide-requires : (k : ℕ) → search-lts.Need-wide-requires (calls k) (search-at k) search′.Post
+wide-requires k c κs = search needs
+
+returns-2 : (k : ℕ) → search-lts.Need-returns-2 (calls k) (search-at k) search′.Post
+returns-2 k c s r =
     let w = c .before in
-    let o = wider t w in
+    let o = wider k w in
     let big = w .before .before .if1 .left in
-    let taken = in-block r (x t w) (first t w) (λ z. omega (arith, c .if2 .taken, big)) (omega (arith, big)) (c .if2 .taken) in
-    none-free (freeIn s) 4 (from t o) (order t o) (sought t o) (low t o) (high t o) taken
+    let taken = in-block r (x k w) (first k w) (λ z. omega (arith, c .if2 .taken, big)) (omega (arith, big)) (c .if2 .taken) in
+    none-free (freeIn s) (t k o) (from k o) (order k o) (sought k o) (low k o) (high k o) taken
 
-uniform-requires : (t : ℕ) → search-lts.Need-uniform-requires (calls t) (search-at t) search′.Post
-uniform-requires t c κs = rows t (c .before)
+uniform-requires : (k : ℕ) → search-lts.Need-uniform-requires (calls k) (search-at k) search′.Post
+uniform-requires k c κs = (omega arith, rows k (c .before))
 
-key-requires : (t : ℕ) → search-lts.Need-key-requires (calls t) (search-at t) search′.Post
-key-requires t c κs = let s = entire t (c .before .before) in (omega (arith, inside t s, pow-pos (order t s - 4)), omega arith)
+key-requires : (k : ℕ) → search-lts.Need-key-requires (calls k) (search-at k) search′.Post
+key-requires k c κs = let s = entire k (c .before .before) in (omega (arith, inside k s, pow-pos (order k s - t k s)), omega arith)
 
-returns-3 : (t : ℕ) → search-lts.Need-returns-3 (calls t) (search-at t) search′.Post
-returns-3 t c s r =
+returns-3 : (k : ℕ) → search-lts.Need-returns-3 (calls k) (search-at k) search′.Post
+returns-3 k c s r =
     let u = c .before .before .before in
-    let o = entire t u in
-    let free = rw (eq-eqb (x t (looked t u)) 0 (c .before .if4 .taken)) at (same t u (c .before .before .if3 .taken)) in
-    c .key .ensures ∙ all-open (freeIn s) 4 (from t o) (order t o) (sought t o) (low t o) (high t o) (uniform-free r free)
+    let o = entire k u in
+    let free = rw (eq-eqb (x k (looked k u)) 0 (c .before .if4 .taken)) at (same k u (c .before .before .if3 .taken)) in
+    c .key .ensures ∙ all-open (freeIn s) (t k o) (from k o) (order k o) (sought k o) (low k o) (high k o) (uniform-free r free)
 
-returns-4 : (t : ℕ) → search-lts.Need-returns-4 (calls t) (search-at t) search′.Post
-returns-4 t c s r =
+returns-4 : (k : ℕ) → search-lts.Need-returns-4 (calls k) (search-at k) search′.Post
+returns-4 k c s r =
     let u = c .before .before in
-    let o = entire t u in
-    let taken = rw (ne-eqb (x t (looked t u)) 0 (c .if4 .left)) at (same t u (c .before .if3 .taken)) in
-    none-free (freeIn s) 4 (from t o) (order t o) (sought t o) (low t o) (high t o) (uniform-taken r taken)
+    let o = entire k u in
+    let taken = rw (ne-eqb (x k (looked k u)) 0 (c .if4 .left)) at (same k u (c .before .if3 .taken)) in
+    none-free (freeIn s) (t k o) (from k o) (order k o) (sought k o) (low k o) (high k o) (uniform-taken r taken)
 
-returns-5 : (t : ℕ) → search-lts.Need-returns-5 (calls t) (search-at t) search′.Post
-returns-5 t c s r =
+returns-5 : (k : ℕ) → search-lts.Need-returns-5 (calls k) (search-at k) search′.Post
+returns-5 k c s r =
     let u = c .before .before in
-    let o = entire t u in
-    at-order (freeIn s) 4 (from t o) (order t o) (sought t o) (low t o) (high t o) (c .if5 .taken) (mixed t u (c .before .if3 .left) s r)
+    let o = entire k u in
+    at-order (freeIn s) (t k o) (from k o) (order k o) (sought k o) (low k o) (high k o) (c .if5 .taken) (mixed k u (c .before .if3 .left) s r)
 
-sub-search : (t : ℕ) → search-lts.Need-sub-search (calls t) (search-at t) search′.Post
-sub-search t c = omega arith
+sub-search : (k : ℕ) → search-lts.Need-sub-search (calls k) (search-at k) search′.Post
+sub-search k c = omega arith
 
-part-search-start : (t : ℕ) → search-lts.Need-part-search-start (calls t) (search-at t) search′.Post
-part-search-start t c = search needs
+part-search-start : (k : ℕ) → search-lts.Need-part-search-start (calls k) (search-at k) search′.Post
+part-search-start k c = search needs
 
-part-search-end : (t : ℕ) → search-lts.Need-part-search-end (calls t) (search-at t) search′.Post
-part-search-end t c = search needs
+part-search-end : (k : ℕ) → search-lts.Need-part-search-end (calls k) (search-at k) search′.Post
+part-search-end k c = search needs
 
-sub-search-2 : (t : ℕ) → search-lts.Need-sub-search-2 (calls t) (search-at t) search′.Post
-sub-search-2 t c = omega arith
+sub-search-2 : (k : ℕ) → search-lts.Need-sub-search-2 (calls k) (search-at k) search′.Post
+sub-search-2 k c = omega arith
 
-search-requires : (t : ℕ) → search-lts.Need-search-requires (calls t) (search-at t) search′.Post
-search-requires t c κs =
+search-requires : (k : ℕ) → search-lts.Need-search-requires (calls k) (search-at k) search′.Post
+search-requires k c κs =
     let d = c .before in
-    let o = whole t d in (
+    let o = whole k d in (
       omega arith,
       (
-        low t o,
-        omega (arith, high t o, d .if5 .left),
         omega arith,
-        simp length-take (omega (arith, half-is t d, slots t o, two t d)),
-        omega (arith, inside t o, two t d),
+        low k o,
+        omega (arith, high k o, d .if5 .left),
+        omega arith,
+        simp length-take (omega (arith, half-is k d, slots k o, two k d)),
+        omega (arith, inside k o, two k d),
       ),
     )
 
-is-exact-requires : (t : ℕ) → search-lts.Need-is-exact-requires (calls t) (search-at t) search′.Post
-is-exact-requires t c κs = omega (arith, high t (both t c))
+is-exact-requires : (k : ℕ) → search-lts.Need-is-exact-requires (calls k) (search-at k) search′.Post
+is-exact-requires k c κs = omega (arith, high k (both k c))
 
-returns-6 : (t : ℕ) → search-lts.Need-returns-6 (calls t) (search-at t) search′.Post
-returns-6 t c s r =
+returns-6 : (k : ℕ) → search-lts.Need-returns-6 (calls k) (search-at k) search′.Post
+returns-6 k c s r =
     let j = c .before .before in
-    let l = left-is t j s r in
-    let exact = ltb-true (j .search .result) ((sought t (both t j) + 1) * 65536) (sym (c .before .is-exact .ensures) ∙ c .if6 .taken) in
-    l ∙ first-half (halved t (split t j) s r) (omega arith)
+    let l = left-is k j s r in
+    let exact = ltb-true (j .search .result) ((sought k (both k j) + 1) * 65536) (sym (c .before .is-exact .ensures) ∙ c .if6 .taken) in
+    l ∙ first-half (halved k (split k j) s r) (omega arith)
 
-sub-search-3 : (t : ℕ) → search-lts.Need-sub-search-3 (calls t) (search-at t) search′.Post
-sub-search-3 t c = omega arith
+sub-search-3 : (k : ℕ) → search-lts.Need-sub-search-3 (calls k) (search-at k) search′.Post
+sub-search-3 k c = omega arith
 
-part-search-start-2 : (t : ℕ) → search-lts.Need-part-search-start-2 (calls t) (search-at t) search′.Post
-part-search-start-2 t c = search needs
+part-search-start-2 : (k : ℕ) → search-lts.Need-part-search-start-2 (calls k) (search-at k) search′.Post
+part-search-start-2 k c = search needs
 
-part-search-end-2 : (t : ℕ) → search-lts.Need-part-search-end-2 (calls t) (search-at t) search′.Post
-part-search-end-2 t c = search needs
+part-search-end-2 : (k : ℕ) → search-lts.Need-part-search-end-2 (calls k) (search-at k) search′.Post
+part-search-end-2 k c = search needs
 
-add-search : (t : ℕ) → search-lts.Need-add-search (calls t) (search-at t) search′.Post
-add-search t c =
-    let d = split t (c .before .before .before) in
-    omega (arith, half-is t d, inside t (whole t d), two t d)
+add-search : (k : ℕ) → search-lts.Need-add-search (calls k) (search-at k) search′.Post
+add-search k c =
+    let d = split k (c .before .before .before) in
+    omega (arith, half-is k d, inside k (whole k d), two k d)
 
-sub-search-4 : (t : ℕ) → search-lts.Need-sub-search-4 (calls t) (search-at t) search′.Post
-sub-search-4 t c = omega arith
+sub-search-4 : (k : ℕ) → search-lts.Need-sub-search-4 (calls k) (search-at k) search′.Post
+sub-search-4 k c = omega arith
 
-search-requires-2 : (t : ℕ) → search-lts.Need-search-requires-2 (calls t) (search-at t) search′.Post
-search-requires-2 t c κs =
-    let d = split t (c .before .before .before) in
-    let o = whole t d in (
+search-requires-2 : (k : ℕ) → search-lts.Need-search-requires-2 (calls k) (search-at k) search′.Post
+search-requires-2 k c κs =
+    let d = split k (c .before .before .before) in
+    let o = whole k d in (
       omega arith,
       (
-        low t o,
-        omega (arith, high t o, d .if5 .left),
         omega arith,
-        simp (length-take, length-drop) (omega (arith, half-is t d, slots t o, two t d)),
-        omega (arith, inside t o, two t d, half-is t d),
+        low k o,
+        omega (arith, high k o, d .if5 .left),
+        omega arith,
+        simp (length-take, length-drop) (omega (arith, half-is k d, slots k o, two k d)),
+        omega (arith, inside k o, two k d, half-is k d),
       ),
     )
 
-returns-7 : (t : ℕ) → search-lts.Need-returns-7 (calls t) (search-at t) search′.Post
-returns-7 t c s r =
+returns-7 : (k : ℕ) → search-lts.Need-returns-7 (calls k) (search-at k) search′.Post
+returns-7 k c s r =
     let j = c .before in
-    let l = left-is t (on-left t j) s r in
-    let g = right-is t j s r in
-    g ∙ right-half (halved t (split t (on-left t j)) s r) (omega (arith, c .if7 .taken))
+    let l = left-is k (on-left k j) s r in
+    let g = right-is k j s r in
+    g ∙ right-half (halved k (split k (on-left k j)) s r) (omega (arith, c .if7 .taken))
 
-returns-8 : (t : ℕ) → search-lts.Need-returns-8 (calls t) (search-at t) search′.Post
-returns-8 t c s r =
+returns-8 : (k : ℕ) → search-lts.Need-returns-8 (calls k) (search-at k) search′.Post
+returns-8 k c s r =
     let j = c .before in
-    let l = left-is t (on-left t j) s r in
-    let g = right-is t j s r in
-    l ∙ left-half (halved t (split t (on-left t j)) s r) (omega (arith, c .if7 .left))
+    let l = left-is k (on-left k j) s r in
+    let g = right-is k j s r in
+    l ∙ left-half (halved k (split k (on-left k j)) s r) (omega (arith, c .if7 .left))
 
 pub +search-spec : {M : Type 1} → statement M
-+search-spec = close μ-search λ t. search-lts.spec (calls t)
-    (search-at t)
++search-spec = close μ-search λ k. search-lts.spec (calls k)
+    (search-at k)
     search′.Post
-    (search-row-requires t)
-    (returns t)
-    (shared-slice-read-wide t)
-    (wide-requires t)
-    (returns-2 t)
-    (uniform-requires t)
-    (key-requires t)
-    (returns-3 t)
-    (returns-4 t)
-    (returns-5 t)
-    (sub-search t)
-    (part-search-start t)
-    (part-search-end t)
-    (sub-search-2 t)
-    (search-requires t)
-    (is-exact-requires t)
-    (returns-6 t)
-    (sub-search-3 t)
-    (part-search-start-2 t)
-    (part-search-end-2 t)
-    (add-search t)
-    (sub-search-4 t)
-    (search-requires-2 t)
-    (returns-7 t)
-    (returns-8 t)
+    (add-if1 k)
+    (search-row-requires k)
+    (returns k)
+    (shared-slice-read-wide k)
+    (wide-requires k)
+    (returns-2 k)
+    (uniform-requires k)
+    (key-requires k)
+    (returns-3 k)
+    (returns-4 k)
+    (returns-5 k)
+    (sub-search k)
+    (part-search-start k)
+    (part-search-end k)
+    (sub-search-2 k)
+    (search-requires k)
+    (is-exact-requires k)
+    (returns-6 k)
+    (sub-search-3 k)
+    (part-search-start-2 k)
+    (part-search-end-2 k)
+    (add-search k)
+    (sub-search-4 k)
+    (search-requires-2 k)
+    (returns-7 k)
+    (returns-8 k)

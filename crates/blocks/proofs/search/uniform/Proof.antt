@@ -17,11 +17,11 @@ use Rattle.blocks.proofs.search.uniform.Statement.{statement}
 use Rattle.blocks.proofs.search.uniform.Tie as tie
 
 abbrev Inv-loop : tie.InvT-loop
-Inv-loop part x i₀ i =
+Inv-loop part t x i₀ i =
     (i ≤ length part) × (i % 16 ≡ 0) × (allFree (asFree part (eqb x 0)) 0 (length part) ≡ allFree (asFree part (eqb x 0)) (0 + i) (length part - i))
 
 abbrev μ-loop : tie.MeasureT-loop
-μ-loop part x i₀ i = length part - i
+μ-loop part t x i₀ i = length part - i
 
 -- where a row was looked at
 module _ (c : tie.After-row-is Inv-loop μ-loop) where
@@ -40,11 +40,14 @@ module _ (c : tie.After-row-is Inv-loop μ-loop) where
   row : c .row-is .result ≡ allFree (asFree part free) (0 + turn .loop .i) 16
   row = c .row-is .ensures ∙ run-of-part (λ v. cond free (eqb v 0) (not (eqb v 0))) part (turn .loop .i) 16 ∙ rw zero-add
 
-  small : leb (start .args .x) 8 ≡ true
-  small = le-leb (start .args .x) 8 (turn .before .if1 .left)
+  small : leb (start .args .x) (start .args .t + 4) ≡ true
+  small = le-leb (start .args .x) (start .args .t + 4) (turn .before .if1 .left)
+
+add-if1 : tie.Need-add-if1 Inv-loop μ-loop
+add-if1 c = search needs
 
 returns : tie.Need-returns Inv-loop μ-loop
-returns c = rw (lt-leb (c .before .before .args .x) 8 (c .if1 .taken))
+returns c = let a = c .before .before .args in rw (lt-leb (a .x) (a .t + 4) (c .if1 .taken))
 
 loop-holds : tie.Need-loop-holds Inv-loop μ-loop
 loop-holds c = (omega arith, omega arith, simp (add-zero, sub-zero))
@@ -82,8 +85,8 @@ loop-again c =
 
 returns-3 : tie.Need-returns-3 Inv-loop μ-loop
 returns-3 c =
-    let x = c .before .before .before .before .args .x in
-    rw (le-leb x 8 (c .before .before .if1 .left)) (sym (c .before .loop .inv .2 ∙ all-none _ _ _ (omega arith)))
+    let a = c .before .before .before .before .args in
+    rw (le-leb (a .x) (a .t + 4) (c .before .before .if1 .left)) (sym (c .before .loop .inv .2 ∙ all-none _ _ _ (omega arith)))
 
 pub uniform-spec : {M : Type 1} → statement M
 uniform-spec =
@@ -91,6 +94,7 @@ uniform-spec =
     (tie.spec
     Inv-loop
     μ-loop
+    add-if1
     returns
     loop-holds
     add-end

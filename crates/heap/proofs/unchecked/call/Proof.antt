@@ -16,25 +16,26 @@ use Rattle.heap.proofs.unchecked.call.Statement.{statement}
 use Rattle.heap.proofs.unchecked.call.Tie as tie
 
 -- a call that its arguments alone refuse
-module _ (m : ℕ) (c : Call) (a t : List ℕ) (s : Sound m a t) where
-  argument-refused : {k : ℕ} {r : Answer} → k ≡ first (argumentRules m c) → (k ≡ 0 → ⊥) → r ≡ answer k 0 → outcome r a t ≡ heapStep m c (heapOf a t)
+module _ (t m : ℕ) (c : Call) (a tab : List ℕ) (s : Sound t m a tab) where
+  argument-refused : {k : ℕ} {r : Answer} → k ≡ first (argumentRules m c) → (k ≡ 0 → ⊥) → r ≡ answer k 0
+      → outcome r a tab ≡ heapStep t m c (heapOf a tab)
   argument-refused {k = k} q n e =
-      let x : k ≡ first (rules m c (heapView m (heapOf a t))) = rw (rules-first, sizes-right a t (sound-sized a t s), ← q, ne-eqb k 0 n) in
-      refused-step m c a t x n e
+      let x : k ≡ first (rules c (heapView t m (heapOf a tab))) = rw (rules-first, sizes-right t a tab (sound-sized t a tab s), ← q, ne-eqb k 0 n) in
+      refused-step t m c a tab x n e
 
 -- c is the call x, of which nothing is refused by the arguments
 module _ (c : tie.Else1) (x : Call) (q : c .before .before .before .before .args .c ≡ x) where
   abbrev entry : tie.Start
   entry = c .before .before .before .before
 
-  ready : Ready (entry .args .m) x (entry .args .arena .now) (entry .args .table .now)
+  ready : Ready (entry .args .t) (entry .args .m) x (entry .args .arena .now) (entry .args .table .now)
   ready =
-      subst (λ (y : Call). Ready (entry .args .m) y (entry .args .arena .now) (entry .args .table .now)) q
+      subst (λ (y : Call). Ready (entry .args .t) (entry .args .m) y (entry .args .arena .now) (entry .args .table .now)) q
       (record { sound = entry .pre; arguments = sym (c .before .arguments .ensures) ∙ c .if1 .left })
 
-  same : (o : Outcome Heap) → o ≡ heapStep (entry .args .m) x (heapOf (entry .args .arena .now) (entry .args .table .now))
-      → o ≡ heapStep (entry .args .m) (entry .args .c) (heapOf (entry .args .arena .now) (entry .args .table .now))
-  same o h = h ∙ ap (λ (y : Call). heapStep (entry .args .m) y (heapOf (entry .args .arena .now) (entry .args .table .now))) (sym q)
+  same : (o : Outcome Heap) → o ≡ heapStep (entry .args .t) (entry .args .m) x (heapOf (entry .args .arena .now) (entry .args .table .now))
+      → o ≡ heapStep (entry .args .t) (entry .args .m) (entry .args .c) (heapOf (entry .args .arena .now) (entry .args .table .now))
+  same o h = h ∙ ap (λ (y : Call). heapStep (entry .args .t) (entry .args .m) y (heapOf (entry .args .arena .now) (entry .args .table .now))) (sym q)
 
 arguments-requires : tie.Need-arguments-requires
 arguments-requires c κs = search needs
@@ -45,7 +46,7 @@ refused-requires c κs = search needs
 returns : tie.Need-returns
 returns c =
     let entry = c .before .before .before .before .before in
-    argument-refused _ _ _ _ (entry .pre) (c .before .before .arguments .ensures) (c .before .if1 .taken) (c .refused .ensures)
+    argument-refused _ _ _ _ _ (entry .pre) (c .before .before .arguments .ensures) (c .before .if1 .taken) (c .refused .ensures)
 
 enum-known-c : tie.Need-enum-known-c
 enum-known-c c = search needs

@@ -1,23 +1,24 @@
 -- Both pointers have referents, so as many bytes as the lesser part holds lie in the arena at either place. Where one has none the call is refused.
-use Prim.Native.Nat.{ℕ, _+_, _-_, _≤_, min}
-use mathlib.Core.Path.{_≡_, _∙_, refl, sym, ap, ap₂}
-use mathlib.Core.Bool.{true, _||_}
-use mathlib.Core.List.{List}
+use Prim.Native.Nat.{ℕ, _+_, _-_, _≤_, min, max}
+use mathlib.Core.Path.{_≡_, _∙_, sym, ap, ap₂}
+use mathlib.Core.List.{List, []}
 use native.Mathlib.Omega.{arith}
 use borrow.Author.Needs.{needs}
 use lib.ListN.{length}
 use Rattle.common.specs.Bytes.{copied}
-use Rattle.blocks.specs.Blocks.{base, missing, leftIn}
-use Rattle.blocks.specs.Tables.{referentIn}
-use Rattle.blocks.specs.Pointers.{marked, sought, referentAt}
+use Rattle.blocks.specs.Blocks.{base, leftIn}
+use Rattle.blocks.specs.Pointers.{marked}
 use Rattle.blocks.specs.declared.Referent.{Referent}
 use Rattle.blocks.specs.declared.Referent.the-variants.{Found}
-use Rattle.blocks.proofs.Booleans.{or-right, or-false-left, or-false-right}
-use Rattle.heap.specs.Rules.{argumentRules, stateRules}
-use Rattle.heap.specs.Heaps.{heapOf, heapStep, outcome}
+use Rattle.blocks.proofs.Booleans.{or-false-left, or-false-right}
+use Rattle.heap.specs.Rules.{argumentRules}
+use Rattle.heap.specs.Heaps.{heapOf, heapView, heapStep, outcome}
+use Rattle.heap.specs.Judging.{located, numberIn}
 use Rattle.heap.specs.declared.Answer.{Answer}
 use Rattle.heap.specs.declared.Call.the-variants.{Copy}
-use Rattle.heap.proofs.Accesses.{Within, left-asks, at-base, room, missing-refused, spot, copy-done}
+use Rattle.heap.specs.declared.refusals.Located.{Located}
+use Rattle.heap.specs.declared.refusals.Located.the-variants.{Refused, Inside}
+use Rattle.heap.proofs.Accesses.{Within, left-asks, at-base, room, both-refused, spot, copy-done}
 use Rattle.heap.proofs.Judging.{answer}
 use Rattle.heap.proofs.unchecked.copy.Statement.{statement}
 use Rattle.heap.proofs.unchecked.copy.Tie as tie
@@ -30,13 +31,14 @@ module _ (e : tie.Start) where
   abbrev entries : List ℕ
   entries = e .args .table .now
 
-  abbrev referent : ℕ → Referent
-  referent p = referentAt (referentIn 4 entries) (sought 4 p)
+  abbrev place : ℕ → Located
+  place p = located (heapView (e .args .t) (e .args .m) (heapOf [] entries)) p
 
-  without-referent : {x : Answer} → x ≡ answer 22 0 → (missing (referent (e .args .p)) || missing (referent (e .args .q))) ≡ true
-      → outcome x bytes entries ≡ heapStep (e .args .m) (Copy (e .args .p) (e .args .q) (e .args .n)) (heapOf bytes entries)
-  unfolding stateRules
-  without-referent k d = ap (λ (y : Answer). outcome y bytes entries) k ∙ missing-refused _ _ _ _ (e .pre) _ _ refl d
+  -- k, the greater of the two numbers, refuses the call where the pointer v is refused
+  refusing : {x : Answer} (k : ℕ) → x ≡ answer k 0 → k ≡ max (numberIn (place (e .args .p))) (numberIn (place (e .args .q))) → (v i : ℕ) → place v ≡ Refused i
+      → numberIn (place v) ≤ max (numberIn (place (e .args .p))) (numberIn (place (e .args .q)))
+      → outcome x bytes entries ≡ heapStep (e .args .t) (e .args .m) (Copy (e .args .p) (e .args .q) (e .args .n)) (heapOf bytes entries)
+  refusing k r q v i l u = ap (λ (y : Answer). outcome y bytes entries) r ∙ both-refused _ _ _ _ _ bytes entries (e .pre) k q v i l u
 
 -- once both referents are known
 module _ (c : tie.After-z) where
@@ -52,19 +54,19 @@ module _ (c : tie.After-z) where
   abbrev source : Referent
   source = Found (c .z .given .0 .0) (c .z .given .0 .1 .0)
 
-  found : referent entry (entry .args .p) ≡ target
-  found = sym (at-s .before .before .referent-of .ensures) ∙ at-s .s .given .1
+  found : place entry (entry .args .p) ≡ Inside (at-s .s .given .0 .0) (at-s .s .given .0 .1 .0)
+  found = sym (at-s .before .before .locate .ensures) ∙ at-s .s .given .1
 
-  found-2 : referent entry (entry .args .q) ≡ source
-  found-2 = sym (c .before .before .referent-of2 .ensures) ∙ c .z .given .1
+  found-2 : place entry (entry .args .q) ≡ Inside (c .z .given .0 .0) (c .z .given .0 .1 .0)
+  found-2 = sym (c .before .before .locate2 .ensures) ∙ c .z .given .1
 
-  within : Within (entry .args .m) (at-s .s .given .0 .0) (at-s .s .given .0 .1 .0) (entry .args .p)
+  within : Within (entry .args .t) (entry .args .m) (at-s .s .given .0 .0) (at-s .s .given .0 .1 .0) (entry .args .p)
   unfolding argumentRules
-  within = spot _ _ (bytes entry) (entries entry) (entry .pre) _ _ _ found (or-false-left _ _)
+  within = spot _ _ _ (bytes entry) (entries entry) (entry .pre) _ found (or-false-left _ _)
 
-  within-2 : Within (entry .args .m) (c .z .given .0 .0) (c .z .given .0 .1 .0) (entry .args .q)
+  within-2 : Within (entry .args .t) (entry .args .m) (c .z .given .0 .0) (c .z .given .0 .1 .0) (entry .args .q)
   unfolding argumentRules
-  within-2 = spot _ _ (bytes entry) (entries entry) (entry .pre) _ _ _ found-2 (or-false-right (marked (entry .args .p)) _)
+  within-2 = spot _ _ _ (bytes entry) (entries entry) (entry .pre) _ found-2 (or-false-right (marked (entry .args .p)) _)
 
 -- once the count is
 module _ (c : tie.After-least2) where
@@ -93,8 +95,8 @@ module _ (c : tie.After-copy) where
   moved : c .copy .last .0 ≡ copied whole (start at-count .args .p - base) whole (start at-count .args .q - base) (count at-count)
   moved = c .copy .ensures ∙ ap₂ (λ (x y : ℕ). copied whole x whole y (count at-count)) (c .before .before .offset .ensures) (c .before .offset2 .ensures)
 
-referent-of-requires : tie.Need-referent-of-requires
-referent-of-requires c κs = search needs
+locate-requires : tie.Need-locate-requires
+locate-requires c κs = search needs
 
 enum-known-s : tie.Need-enum-known-s
 enum-known-s c = search needs
@@ -102,17 +104,22 @@ enum-known-s c = search needs
 enum-told : tie.Need-enum-told
 enum-told c = search needs
 
+both-refused-requires : tie.Need-both-refused-requires
+both-refused-requires c κs = search needs
+
 refused-requires : tie.Need-refused-requires
 refused-requires c κs = search needs
 
 returns : tie.Need-returns
 returns c =
-    let e = c .before .before .before .before .before .before in
-    let gone = sym (c .before .before .before .referent-of .ensures) ∙ c .before .enum-told .given .1 in
-    without-referent e (c .refused .ensures) (ap (λ (x : Referent). missing x || missing (referent e (e .args .q))) gone)
+    let both = c .before in
+    let told = both .before in
+    let e = told .before .before .before .before .before in
+    refusing e _ (c .refused .ensures) (both .both-refused .ensures) (e .args .p) _ (sym (told .before .before .locate .ensures) ∙ told .enum-told .given .1)
+    (omega arith)
 
-referent-of-requires-2 : tie.Need-referent-of-requires-2
-referent-of-requires-2 c κs = search needs
+locate-requires-2 : tie.Need-locate-requires-2
+locate-requires-2 c κs = search needs
 
 enum-known-z : tie.Need-enum-known-z
 enum-known-z c = search needs
@@ -120,14 +127,19 @@ enum-known-z c = search needs
 enum-told-2 : tie.Need-enum-told-2
 enum-told-2 c = search needs
 
+both-refused-requires-2 : tie.Need-both-refused-requires-2
+both-refused-requires-2 c κs = search needs
+
 refused-requires-2 : tie.Need-refused-requires-2
 refused-requires-2 c κs = search needs
 
 returns-2 : tie.Need-returns-2
 returns-2 c =
-    let e = c .before .before .before .before .before .before .before .before .before .before in
-    let gone = sym (c .before .before .before .referent-of2 .ensures) ∙ c .before .enum-told2 .given .1 in
-    without-referent e (c .refused2 .ensures) (or-right (missing (referent e (e .args .p))) (ap missing gone))
+    let both = c .before in
+    let told = both .before in
+    let e = told .before .before .before .before .before .before .before .before .before in
+    refusing e _ (c .refused2 .ensures) (both .both-refused2 .ensures) (e .args .q) _ (sym (told .before .before .locate2 .ensures) ∙ told .enum-told2 .given .1)
+    (omega arith)
 
 left-in-requires : tie.Need-left-in-requires
 left-in-requires c κs = left-asks (within (c .before))
@@ -170,20 +182,22 @@ returns-3 c =
     let k = at-count n in
     let e = start k in
     ap (λ (x : Answer). outcome x (n .copy .last .0) (entries e)) (c .accepted .ensures)
-    ∙ copy-done _ (bytes e) (entries e) _ _ _ (found (at-z k)) _ _ _ (found-2 (at-z k)) _ _ _ (e .pre) (counted k) (moved n)
+    ∙ copy-done _ _ _ _ _ (bytes e) (entries e) (e .pre) (found (at-z k)) (found-2 (at-z k)) _ _ (counted k) (moved n)
 
 pub copy-spec : {M : Type 1} → statement M
 copy-spec =
     tie.close
     (tie.spec
-    referent-of-requires
+    locate-requires
     enum-known-s
     enum-told
+    both-refused-requires
     refused-requires
     returns
-    referent-of-requires-2
+    locate-requires-2
     enum-known-z
     enum-told-2
+    both-refused-requires-2
     refused-requires-2
     returns-2
     left-in-requires

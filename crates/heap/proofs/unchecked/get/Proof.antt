@@ -1,11 +1,12 @@
 -- A place is a free range of at least the order that is needed, so the block's entries and its cleared bytes lie in the table and the arena. With no
 -- place the call is refused.
 use Prim.Native.Nat.{ℕ, _+_, _-_, _*_, _%_, _^_, _≤_}
-use mathlib.Core.Path.{_≡_, refl, sym, _∙_, ap}
+use mathlib.Core.Path.{_≡_, sym, _∙_, ap, ap₂}
 use native.Mathlib.Omega.{arith}
 use borrow.Author.Needs.{needs}
 use lib.ListN.{length, replicate}
 use Rattle.common.specs.Bytes.{over}
+use Rattle.blocks.specs.Blocks.{base}
 use Rattle.blocks.specs.Placing.{placeIn}
 use Rattle.blocks.proofs.Orders.{Needed}
 use Rattle.blocks.specs.Tables.{freeIn}
@@ -24,8 +25,10 @@ module _ (c : tie.After-needed-order) where
   abbrev order : ℕ
   order = c .needed-order .result
 
-  order-needed : Needed 4 (entry .args .m) (entry .args .n) order
-  order-needed = needed (entry .args .m) (entry .args .n) (entry .args .arena .now) (entry .args .table .now) (entry .pre) order (c .needed-order .ensures)
+  order-needed : Needed (entry .args .t) (entry .args .m) (entry .args .n) order
+  order-needed =
+      let a = entry .args in
+      needed (a .t) (a .m) (a .n) (a .arena .now) (a .table .now) (entry .pre) order (c .needed-order .ensures)
 
   order-top : order ≤ 16
   order-top = omega (arith, order-needed .high, entry .pre .sound .high)
@@ -41,50 +44,58 @@ module _ (c : tie.After-slot) where
   abbrev start : tie.Start
   start = entry from
 
-  found : placeIn (freeIn (start .args .table .now)) 4 0 (start .args .m) (order from) ≡ At at (c .slot .given .0 .1 .0)
+  found : placeIn (freeIn (start .args .table .now)) (start .args .t) 0 (start .args .m) (order from) ≡ At at (c .slot .given .0 .1 .0)
   found = sym (c .before .before .find-place .ensures) ∙ c .slot .given .1
 
-  slots-fit : at + 2 ^ (order from - 4) ≤ length (start .args .table .now)
+  slots-fit : at + 2 ^ (order from - start .args .t) ≤ length (start .args .table .now)
   slots-fit =
-      get-slots (start .args .m) (start .args .n) (start .args .arena .now) (start .args .table .now) (start .pre) (order from) (from .needed-order .ensures)
-      at (c .slot .given .0 .1 .0) found
-
-  bytes-fit : (at * 16 + 2 ^ order from ≤ length (start .args .arena .now)) × (length (start .args .arena .now) ≤ 65536)
-  bytes-fit = (
-    get-bytes (start .args .m) (start .args .n) (start .args .arena .now) (start .args .table .now) (start .pre) (order from) (from .needed-order .ensures)
-        at (c .slot .given .0 .1 .0) found,
-    get-small (start .args .m) (start .args .n) (start .args .arena .now) (start .args .table .now) (start .pre) (order from) (from .needed-order .ensures)
-        at (c .slot .given .0 .1 .0) found,
-  )
+      let a = start .args in
+      get-slots (a .t) (a .m) (a .n) (a .arena .now) (a .table .now) (start .pre) (order from) (from .needed-order .ensures) at (c .slot .given .0 .1 .0) found
 
 -- once the table has the block's entries
 module _ (c : tie.After-fill) where
   abbrev place : tie.After-slot
   place = c .before .before .before .before
 
-  entries : c .fill .last .0 ≡ over (start place .args .table .now) (at place) (replicate (2 ^ (order (from place) - 4)) (order (from place) % 256))
+  abbrev known : tie.After-needed-order
+  known = from place
+
+  entries : let a = start place .args in
+      c .fill .last .0 ≡ over (a .table .now) (at place) (replicate (2 ^ (order known - a .t)) (order known % 256))
   entries =
       c .fill .ensures
-      ∙ ap (λ (z : ℕ). over (start place .args .table .now) (at place) (replicate z (order (from place) % 256))) (c .before .slots-of .ensures)
+      ∙ ap (λ (z : ℕ). over (start place .args .table .now) (at place) (replicate z (order known % 256))) (c .before .slots-of .ensures)
 
--- and once the block is cleared
-module _ (c : tie.After-fill2) where
+-- and once a slot's size is known, the block's first byte
+module _ (c : tie.After-size-of) where
   abbrev filled : tie.After-fill
-  filled = c .before .before .before .before .before
+  filled = c .before .before .before
 
-  zeros : c .fill2 .last .0 ≡ over (start (place filled) .args .arena .now) (at (place filled) * 16) (replicate (2 ^ order (from (place filled))) 0)
-  zeros =
-      c .fill2 .ensures
-      ∙ ap (λ (z : ℕ). over (start (place filled) .args .arena .now) (at (place filled) * 16) (replicate z 0)) (c .before .size-of .ensures)
+  abbrev first : ℕ
+  first = at (place filled) * c .size-of .result
+
+  first-is : first ≡ at (place filled) * 2 ^ start (place filled) .args .t
+  first-is = ap (λ (x : ℕ). at (place filled) * x) (c .size-of .ensures)
+
+  bytes-fit : (first + 2 ^ order (known filled) ≤ length (start (place filled) .args .arena .now)) × (length (start (place filled) .args .arena .now) ≤ 2 ^ 16)
+  bytes-fit =
+      let p = place filled in
+      let a = start p .args in
+      let o = known filled in
+      let k = p .slot .given .0 .1 .0 in
+      let fit = get-bytes (a .t) (a .m) (a .n) (a .arena .now) (a .table .now) (start p .pre) (order o) (o .needed-order .ensures) (at p) k (found p) in (
+        rw first-is fit,
+        get-small (a .t) (a .m) (a .n) (a .arena .now) (a .table .now) (start p .pre) (order o) (o .needed-order .ensures) (at p) k (found p),
+      )
 
 needed-order-requires : tie.Need-needed-order-requires
-needed-order-requires c κs = let s = c .before .before .pre .sound in (omega (arith, s .low), s .high)
+needed-order-requires c κs = let s = c .before .before .pre .sound in (s .slot-high, s .high)
 
 find-place-requires : tie.Need-find-place-requires
 find-place-requires c κs =
     let k = c .before in
     let s = entry k .pre .sound in
-    (order-needed k .low, order-needed k .high, s .high, s .slots, s .whole)
+    (s .slot-low, order-needed k .low, order-needed k .high, s .high, s .slots, s .whole)
 
 enum-told : tie.Need-enum-told
 enum-told c = search needs
@@ -104,26 +115,29 @@ cast-fill c = record { fits = omega arith }
 fill-requires : tie.Need-fill-requires
 fill-requires c κs = omega (arith, slots-fit (c .before .before .before), c .slots-of .ensures)
 
-mul-fill : tie.Need-mul-fill
-mul-fill c = record { fits = omega (arith, bytes-fit (place (c .before .before .before))) }
-
 size-of-requires : tie.Need-size-of-requires
-size-of-requires c κs = order-top (from (place (c .before .before .before)))
+size-of-requires c κs = let s = start (place (c .before .before)) .pre .sound in omega (arith, s .slot-high, s .high)
+
+cast-at : tie.Need-cast-at
+cast-at c = search needs
+
+mul-at : tie.Need-mul-at
+mul-at c = record { fits = omega (arith, bytes-fit c) }
+
+size-of-requires-2 : tie.Need-size-of-requires-2
+size-of-requires-2 c κs = order-top (known (filled (c .before)))
 
 cast-fill-2 : tie.Need-cast-fill-2
 cast-fill-2 c = search needs
 
 fill-requires-2 : tie.Need-fill-requires-2
-fill-requires-2 c κs = omega (arith, bytes-fit (place (c .before .before .before .before)) .0, c .size-of .ensures)
-
-mul-accepted : tie.Need-mul-accepted
-mul-accepted c = record { fits = omega (arith, bytes-fit (place (filled (c .before .before)))) }
+fill-requires-2 c κs = omega (arith, bytes-fit (c .before .before) .0, c .size-of2 .ensures)
 
 cast-accepted : tie.Need-cast-accepted
-cast-accepted c = record { fits = omega (arith, bytes-fit (place (filled (c .before .before)))) }
+cast-accepted c = record { fits = omega (arith, bytes-fit (c .before .before .before .before .before)) }
 
 add-accepted : tie.Need-add-accepted
-add-accepted c = record { fits = omega (arith, bytes-fit (place (filled (c .before .before)))) }
+add-accepted c = record { fits = omega (arith, bytes-fit (c .before .before .before .before .before)) }
 
 accepted-requires : tie.Need-accepted-requires
 accepted-requires c κs = search needs
@@ -136,7 +150,7 @@ returns c =
     let k = c .before .before .before .before .before in
     let a = entry k .args in
     ap (λ (x : Answer). outcome x (a .arena .now) (a .table .now)) (c .refused .ensures)
-    ∙ get-none (a .m) (a .n) (a .arena .now) (a .table .now) (entry k .pre) (order k) (k .needed-order .ensures)
+    ∙ get-none (a .t) (a .m) (a .n) (a .arena .now) (a .table .now) (entry k .pre) (order k) (k .needed-order .ensures)
     (sym (c .before .before .before .find-place .ensures) ∙ c .before .enum-told .given .1)
 
 same-length-2 : tie.Need-same-length-2
@@ -147,17 +161,21 @@ same-length-3 c = search needs
 
 returns-2 : tie.Need-returns-2
 returns-2 c =
-    let x = c .before .before .before in
-    let y = filled x in
+    let cleared : tie.After-fill2 = c .before .before .before in
+    let sized : tie.After-size-of2 = cleared .before in
+    let o : tie.After-size-of = sized .before .before in
+    let y = filled o in
     let k = place y in
     let a = start k .args in
-    ap (λ (r : Answer). outcome r (x .fill2 .last .0) (y .fill .last .0)) (c .accepted .ensures)
-    ∙ get-done (a .m) (a .n) (a .arena .now) (a .table .now) (start k .pre) (order (from k)) (from k .needed-order .ensures) (at k) (k .slot .given .0 .1 .0)
-    (found k) (65536 + at k * 16) (x .fill2 .last .0) (y .fill .last .0) refl (zeros x) (entries y)
+    let bytes = ap₂ (λ (i z : ℕ). over (a .arena .now) i (replicate z 0)) (first-is o) (sized .size-of2 .ensures) in
+    ap (λ (r : Answer). outcome r (cleared .fill2 .last .0) (y .fill .last .0)) (c .accepted .ensures)
+    ∙ get-done (a .t) (a .m) (a .n) (a .arena .now) (a .table .now) (start k .pre) (order (from k)) (from k .needed-order .ensures) (at k)
+    (k .slot .given .0 .1 .0) (found k) (base + first o) (cleared .fill2 .last .0) (y .fill .last .0) (ap (λ (i : ℕ). base + i) (first-is o))
+    (cleared .fill2 .ensures ∙ bytes) (entries y)
 
 pub get-spec : {M : Type 1} → statement M
 get-spec =
     tie.close
-    (tie.spec needed-order-requires find-place-requires enum-told refused-requires enum-known-slot slots-of-requires cast-fill fill-requires mul-fill
-    size-of-requires cast-fill-2 fill-requires-2 mul-accepted cast-accepted add-accepted accepted-requires same-length returns same-length-2 same-length-3
-    returns-2)
+    (tie.spec needed-order-requires find-place-requires enum-told refused-requires enum-known-slot slots-of-requires cast-fill fill-requires
+    size-of-requires cast-at mul-at size-of-requires-2 cast-fill-2 fill-requires-2 cast-accepted add-accepted accepted-requires same-length returns
+    same-length-2 same-length-3 returns-2)

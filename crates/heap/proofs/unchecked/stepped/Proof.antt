@@ -8,7 +8,7 @@ use borrow.Author.Needs.{needs}
 use borrow.Author.Tests.{ltb-true, ltb-false}
 use Rattle.blocks.specs.Pointers.{wrappedSum, checkBits}
 use Rattle.heap.specs.Judging.{Holding}
-use Rattle.heap.proofs.Stepping.{end-low, stepped-inside, stepped-before, stepped-past, stepped-beyond}
+use Rattle.heap.proofs.Stepping.{reach-small, end-low, stepped-inside, stepped-before, stepped-past, stepped-beyond}
 use Rattle.heap.proofs.unchecked.stepped.Statement.{statement}
 use Rattle.heap.proofs.unchecked.stepped.Tie as tie
 
@@ -24,33 +24,41 @@ accepted-requires c κs = search needs
 returns : tie.Need-returns
 returns c =
     let k = c .before .before in
-    c .accepted .ensures ∙ stepped-inside _ _ _ _ _ _ (k .before .before .pre) (k .before .wrapping-add-u32 .ensures) (sym (k .passes .ensures .0) ∙ c .before .if1 .taken)
+    c .accepted .ensures ∙ stepped-inside _ _ _ _ _ _ _ (k .before .before .pre) (k .before .wrapping-add-u32 .ensures) (sym (k .passes .ensures .0) ∙ c .before .if1 .taken)
 
 size-of-requires : tie.Need-size-of-requires
 size-of-requires c κs = search needs
 
-module _ (c : tie.After-size-of) where
-  abbrev entry : tie.Start
-  entry = c .before .before .before .before
+add-end : tie.Need-add-end
+add-end c =
+    let k = c .before .before .before in
+    omega (arith, end-low _ _ _ _ _ _ _ (k .before .pre) (k .wrapping-add-u32 .ensures), c .size-of .ensures)
 
-  held : Holding (entry .args .s) (entry .args .e) (entry .args .h) (entry .args .q)
+sub-size-of : tie.Need-sub-size-of
+sub-size-of c = let h = c .before .before .before .before .pre in omega (arith, h .slot-low)
+
+size-of-requires-2 : tie.Need-size-of-requires-2
+size-of-requires-2 c κs = let h = c .before .before .before .before .pre in omega (arith, h .slot-high)
+
+module _ (c : tie.After-size-of2) where
+  abbrev entry : tie.Start
+  entry = c .before .before .before .before .before
+
+  held : Holding (entry .args .t) (entry .args .s) (entry .args .e) (entry .args .h) (entry .args .q)
   held = entry .pre
 
-  sum : c .before .before .before .wrapping-add-u32 .result ≡ wrappedSum (entry .args .q) (entry .args .i)
-  sum = c .before .before .before .wrapping-add-u32 .ensures
+  sum : c .before .before .before .before .wrapping-add-u32 .result ≡ wrappedSum (entry .args .q) (entry .args .i)
+  sum = c .before .before .before .before .wrapping-add-u32 .ensures
 
   fails : checkBits (entry .args .e) (entry .args .h) (wrappedSum (entry .args .q) (entry .args .i)) ≡ false
-  fails = sym (c .before .before .passes .ensures .0) ∙ c .before .if1 .left
+  fails = sym (c .before .before .before .passes .ensures .0) ∙ c .before .before .if1 .left
 
   -- the block's end, and the reach past it, lie in the lower half
-  end : entry .args .s + c .size-of .result + 8 < 2 ^ 31
-  end = omega (arith, end-low _ _ _ _ _ _ held sum)
-
-add-end : tie.Need-add-end
-add-end c = omega (arith, end c)
+  end : entry .args .s + c .before .size-of .result + c .size-of2 .result < 2 ^ 31
+  end = omega (arith, end-low _ _ _ _ _ _ _ held sum, c .before .size-of .ensures, c .size-of2 .ensures)
 
 sub-if2 : tie.Need-sub-if2
-sub-if2 c = search needs
+sub-if2 c = omega (arith, reach-small _ _ _ _ _ _ _ (held c) (sum c), held c .low, c .size-of2 .ensures)
 
 add-accepted : tie.Need-add-accepted
 add-accepted c = omega (arith, end (c .before .before), ltb-true)
@@ -61,7 +69,7 @@ accepted-requires-2 c κs = search needs
 returns-2 : tie.Need-returns-2
 returns-2 c =
     let k = c .before .before .before in
-    c .accepted2 .ensures ∙ stepped-before _ _ _ _ _ _ (held k) (sum k) (fails k) (omega arith) (omega (arith, ltb-true))
+    c .accepted2 .ensures ∙ stepped-before _ _ _ _ _ _ _ (held k) (sum k) (fails k) (omega arith) (omega (arith, ltb-true))
 
 add-if5 : tie.Need-add-if5
 add-if5 c = omega (arith, end (c .before .before))
@@ -75,7 +83,7 @@ accepted-requires-3 c κs = search needs
 returns-3 : tie.Need-returns-3
 returns-3 c =
     let k = c .before .before .before .before in
-    c .accepted3 .ensures ∙ stepped-past _ _ _ _ _ _ (held k) (sum k) (fails k) (omega arith) (omega (arith, ltb-true))
+    c .accepted3 .ensures ∙ stepped-past _ _ _ _ _ _ _ (held k) (sum k) (fails k) (omega arith) (omega (arith, ltb-true))
 
 refused-requires : tie.Need-refused-requires
 refused-requires c κs = search needs
@@ -84,7 +92,7 @@ returns-4 : tie.Need-returns-4
 returns-4 c =
     let k = c .before .before .before in
     c .refused .ensures
-    ∙ stepped-beyond _ _ _ _ _ _ (held k) (sum k) (fails k)
+    ∙ stepped-beyond _ _ _ _ _ _ _ (held k) (sum k) (fails k)
     (λ l. ⊎-elim (λ w. omega (arith, ltb-false)) (λ w. omega arith) (c .before .before .if2 .came))
     (λ l. ⊎-elim (λ w. omega (arith, ltb-false)) (λ w. omega arith) (c .before .if4 .came))
 
@@ -98,6 +106,8 @@ stepped-spec =
     returns
     size-of-requires
     add-end
+    sub-size-of
+    size-of-requires-2
     sub-if2
     add-accepted
     accepted-requires-2
