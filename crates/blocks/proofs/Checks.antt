@@ -10,7 +10,7 @@ use lib.Dec.{leb}
 use Rattle.blocks.specs.Blocks.{floor, holds}
 use Rattle.blocks.specs.Pointers.{signed, exactSum, wrappedSum, checkBits, within}
 use Rattle.blocks.specs.declared.Referent.the-variants.{Found}
-use Rattle.blocks.proofs.Booleans.{and-left, and-right, and-both, true-together}
+use Rattle.common.proofs.Booleans.{and-left, and-right, and-both, true-together}
 use Rattle.blocks.proofs.Floors.{floor-le, lt-floor, quotient-same, floor-end}
 
 -- only equal numbers have the exclusive or 0

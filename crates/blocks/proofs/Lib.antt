@@ -1,5 +1,4 @@
 -- What the proofs of several functions use, and the theorems on the definitions.
-pub mod Booleans
 pub mod Floors
 pub mod Orders
 pub mod Checks

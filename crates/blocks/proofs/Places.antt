@@ -11,7 +11,7 @@ use lib.Dec.{eqb}
 use Rattle.blocks.specs.declared.Place.{Place}
 use Rattle.blocks.specs.declared.Place.the-variants.{At, Nothing}
 use Rattle.blocks.specs.Placing.{rangeStart, freeRange, maximal, lowest, atOrder, orElse, fromOrder, placeIn}
-use Rattle.blocks.proofs.Booleans.{and-left, and-false-cases, or-right}
+use Rattle.common.proofs.Booleans.{and-left, and-false-cases, or-right}
 use Rattle.blocks.proofs.Halves.{doubled, sizes}
 use Rattle.blocks.proofs.Runs.{all-at}
 

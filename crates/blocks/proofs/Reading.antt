@@ -16,7 +16,7 @@ use Rattle.blocks.specs.Sets.{BlockSet, IsTable, SameSet, referentOf, ta
 use Rattle.blocks.specs.Tables.{damagedBy, blockRound, referentIn}
 use Rattle.blocks.specs.declared.Referent.{Referent}
 use Rattle.blocks.specs.declared.Referent.the-variants.{Missing, Found}
-use Rattle.blocks.proofs.Booleans.{and-left, and-right}
+use Rattle.common.proofs.Booleans.{and-left, and-right}
 use Rattle.blocks.proofs.Floors.{floor-quotient, floor-le, lt-floor, floor-multiple}
 use Rattle.blocks.proofs.Referents.{referent-entry}
 use Rattle.blocks.proofs.Sets.{round-held, found-member, member-found, found-aligned}

@@ -13,7 +13,7 @@ use Rattle.blocks.specs.Tables.{damagedBy, blockRound, referentIn}
 use Rattle.blocks.specs.Pointers.{marked, address, sought, referentAt}
 use Rattle.blocks.specs.Seeking.{fromZero}
 use Rattle.blocks.specs.declared.Referent.the-variants.{Missing, Found}
-use Rattle.blocks.proofs.Booleans.{and-left, and-right, and-both}
+use Rattle.common.proofs.Booleans.{and-left, and-right, and-both}
 use Rattle.blocks.proofs.Floors.{floor-le, lt-floor, floor-same}
 use Rattle.blocks.proofs.Slots.{block, slotOf, slot-start, InSlots, floor-slots, Slots, aligned-of, slots-round, held-slots}
 use Rattle.blocks.proofs.Tables.{Whole, undamaged-whole}

@@ -8,7 +8,7 @@ use native.Mathlib.Omega.{arith}
 use lib.ListN.{length, take, drop, getD, length-take, length-drop}
 use lib.Seq.{getD-take, getD-drop}
 use Rattle.blocks.specs.Placing.{allFree}
-use Rattle.blocks.proofs.Booleans.{and-left, and-right}
+use Rattle.common.proofs.Booleans.{and-left, and-right}
 
 pub all-none : (f : ℕ → Bool) (i n : ℕ) → n ≤ 0 → allFree f i n ≡ true
 unfolding allFree

@@ -12,7 +12,7 @@ use Rattle.blocks.specs.Sets.{BlockSet, referentOf}
 use Rattle.blocks.specs.Tables.{blockRound}
 use Rattle.blocks.specs.declared.Referent.{Referent}
 use Rattle.blocks.specs.declared.Referent.the-variants.{Missing, Found}
-use Rattle.blocks.proofs.Booleans.{and-left, and-right}
+use Rattle.common.proofs.Booleans.{and-left, and-right}
 use Rattle.blocks.proofs.Floors.{floor-multiple}
 use Rattle.blocks.proofs.Referents.{round-some}
 use Rattle.blocks.proofs.Slots.{block, slotOf, slot-start, slots-of, held-slots, slots-held}

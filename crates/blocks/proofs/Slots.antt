@@ -8,7 +8,7 @@ use borrow.Author.Tests.{le-leb, lt-ltb, leb-true, ltb-true}
 use lib.Dec.{leb}
 use lib.Pow.{pow-pos, shr-shr}
 use Rattle.blocks.specs.Blocks.{base, floor, Block, holds, Aligned}
-use Rattle.blocks.proofs.Booleans.{and-left, and-right, and-both}
+use Rattle.common.proofs.Booleans.{and-left, and-right, and-both}
 use Rattle.blocks.proofs.Floors.{floor-quotient, floor-end, pow-split}
 
 abbrev pub block : ℕ → ℕ → Block

@@ -11,7 +11,7 @@ use lib.Dec.{leb}
 use lib.ListN.{length, getD}
 use Rattle.blocks.specs.Blocks.{floor}
 use Rattle.blocks.specs.Tables.{any, torn, bad, damagedBy}
-use Rattle.blocks.proofs.Booleans.{and-left, and-right, or-right, or-false-left, or-false-right}
+use Rattle.common.proofs.Booleans.{and-left, and-right, or-right, or-false-left, or-false-right}
 use Rattle.blocks.proofs.Floors.{floor-same}
 
 module _ (test : ℕ → Bool) where

@@ -1,4 +1,6 @@
 -- What the proofs of several functions use.
+pub mod Booleans
+pub mod Refusals
 pub mod Bytes
 mod Loops
 mod Copies

@@ -27,7 +27,9 @@ use Rattle.heap.specs.Changes.{changeOf}
 use Rattle.heap.specs.declared.Call.{Call}
 use Rattle.heap.specs.declared.Call.the-variants.{Left, Copy, Fill}
 use Rattle.heap.specs.declared.refusals.Located.the-variants.{Refused, Inside}
-use Rattle.heap.proofs.Judging.{condOf, first-stays, first-goes-on, argument-clear, answer, step-refused, step-accepted}
+use Rattle.common.proofs.Refusals.{condOf, first-stays, first-goes-on}
+use Rattle.heap.proofs.Settling.{answer}
+use Rattle.heap.proofs.Judging.{argument-clear, step-refused, step-accepted}
 use Rattle.heap.proofs.Homes.{located-number, located-refused, located-inside}
 
 -- a block of an arena starts at a multiple of its size

@@ -12,7 +12,7 @@ use Rattle.heap.specs.Rules.{homeRules}
 use Rattle.heap.specs.Judging.{locatedBy, located, numberIn}
 use Rattle.heap.specs.declared.refusals.Located.{Located}
 use Rattle.heap.specs.declared.refusals.Located.the-variants.{Refused, Inside}
-use Rattle.heap.proofs.Judging.{clear}
+use Rattle.common.proofs.Refusals.{clear}
 
 -- the block
 abbrev blockIn : Located → Referent

@@ -1,17 +1,18 @@
--- Lists of refusals, and a call that has been judged up to its state.
-use Prim.Native.Nat.{ℕ, zero, suc, _-_, _^_, _≤_, _<_}
+-- A call that has been judged up to its state, by its list of refusals.
+use Prim.Native.Nat.{ℕ, zero, suc, _-_, _^_, _≤_}
 use mathlib.Core.Path.{_≡_, refl, sym, _∙_, ap, ap₂, subst}
-use mathlib.Core.Bool.{Bool, true, false, not, cond, _&&_}
-use mathlib.Core.List.{List, [], _∷_, _++_}
+use mathlib.Core.Bool.{Bool, true, false, not, cond}
+use mathlib.Core.List.{List, [], _∷_}
 use native.Mathlib.Omega.{arith}
 use native.Mathlib.Decide.{decLt}
-use borrow.Author.Tests.{ltb-true, leb-true, eqb-true, eqb-false, le-leb, eq-eqb, ne-eqb, not-false}
-use lib.Dec.{eqb, ltb, leb}
+use borrow.Author.Tests.{leb-true, eqb-true, eqb-false, le-leb, eq-eqb, not-false}
+use lib.Dec.{eqb, leb}
 use lib.ListN.{length, replicate, length-replicate}
 use Rattle.common.specs.Refusals.{Refusal, _when_, first}
 use Rattle.common.specs.Bytes.{over}
 use Rattle.common.proofs.Bytes.{over-whole}
-use Rattle.blocks.proofs.Booleans.{and-left, and-right, and-both, eqb-suc}
+use Rattle.common.proofs.Refusals.{positive, clear, condOf, first-stays, numbered, first-append}
+use Rattle.common.proofs.Booleans.{and-left, and-right, and-both, eqb-suc}
 use Rattle.blocks.proofs.Orders.{order-power}
 use Rattle.blocks.specs.Tables.{damagedBy}
 use Rattle.blocks.specs.Orders.{smallestOrder, largestOrder, isArenaOrder, orderOf}
@@ -24,51 +25,7 @@ use Rattle.heap.specs.Judging.{heapOrder, beforeCall, Sound, Ready}
 use Rattle.heap.specs.declared.Answer.{Answer}
 use Rattle.heap.specs.declared.Call.{Call}
 use Rattle.heap.specs.declared.Call.the-variants.{Get, Give, Step, Read, Write, Left, Copy, Fill}
-
--- the condition of the number k in the list
-abbrev pub condOf : ℕ → List Refusal → Bool
-condOf k [] = false
-condOf k ((n when b) ∷ rs) = cond (eqb n k) b (condOf k rs)
-
-abbrev pub positive : List Refusal → Bool
-positive [] = true
-positive ((n when b) ∷ rs) = ltb 0 n && positive rs
-
--- where none applies, the condition of each number is false, in whatever order the list has them
-pub clear : (rs : List Refusal) → positive rs ≡ true → first rs ≡ 0 → (k : ℕ) → condOf k rs ≡ false
-clear [] h e k = refl
-clear ((n when b) ∷ rs) h e k = go (clear rs (and-right (ltb 0 n) _ h)) b e (eqb n k)
-  where
-    go : (first rs ≡ 0 → (k : ℕ) → condOf k rs ≡ false) → (b : Bool) → cond b n (first rs) ≡ 0 → (t : Bool) → cond t b (condOf k rs) ≡ false
-    go ih true x t = let z : 0 < n = ltb-true 0 n (and-left _ _ h) in absurd (omega arith)
-    go ih false x true = refl
-    go ih false x false = ih x k
-
--- a list that refuses, before another
-pub first-stays : (xs ys : List Refusal) → (first xs ≡ 0 → ⊥) → first (xs ++ ys) ≡ first xs
-first-stays [] ys n = absurd (n refl)
-first-stays ((k when b) ∷ xs) ys n = go b n (first-stays xs ys)
-  where
-    go : (b : Bool) → (cond b k (first xs) ≡ 0 → ⊥) → ((first xs ≡ 0 → ⊥) → first (xs ++ ys) ≡ first xs) → cond b k (first (xs ++ ys)) ≡ cond b k (first xs)
-    go true n ih = refl
-    go false n ih = ih n
-
--- the refusal n, none where it is 0
-abbrev numbered : ℕ → Refusal
-numbered n = n when not (eqb n 0)
-
--- any list, before another
-first-append : (xs ys : List Refusal) → positive xs ≡ true → first (xs ++ ys) ≡ first (numbered (first xs) ∷ ys)
-first-append [] ys q = refl
-first-append ((k when b) ∷ xs) ys q = go b (first-append xs ys (and-right (ltb 0 k) _ q))
-  where
-    go : (b : Bool) → first (xs ++ ys) ≡ first (numbered (first xs) ∷ ys) → cond b k (first (xs ++ ys)) ≡ first (numbered (cond b k (first xs)) ∷ ys)
-    go true ih = let l : 0 < k = ltb-true 0 k (and-left _ _ q) in rw (ne-eqb k 0 (λ z. omega arith))
-    go false ih = ih
-
--- a list that refuses nothing, before another
-pub first-goes-on : (xs ys : List Refusal) → positive xs ≡ true → first xs ≡ 0 → first (xs ++ ys) ≡ first ys
-first-goes-on xs ys q z = first-append xs ys q ∙ rw z
+use Rattle.heap.proofs.Settling.{answer, settled-refused}
 
 arguments-positive : (m : ℕ) (c : Call) → positive (argumentRules m c) ≡ true
 unfolding argumentRules
@@ -100,13 +57,6 @@ judging-clear b n d rs z = go b (eqb n 0) refl d z
     go false false x d z = absurd (eqb-false n 0 x z)
     go false true x true z = absurd (omega arith)
     go false true x false z = (refl, eqb-true n 0 x, refl, z)
-
-abbrev pub answer : ℕ → ℕ → Answer
-answer n v = record { number = n; value = v }
-
-pub settled-refused : {S : Type 0} (k : ℕ) (old : S) (v : ℕ) (new : S) → (k ≡ 0 → ⊥) → record { answer = answer k 0; state = old } ≡ settled k old v new
-settled-refused zero old v new n = absurd (n refl)
-settled-refused (suc k) old v new n = refl
 
 -- The lengths, by the order of the arena's: that of a heap in slots of 2 ^ t bytes, t at most the smallest order of an arena.
 module _ (t : ℕ) (a tab : List ℕ) where

@@ -1,5 +1,6 @@
 -- What the proofs of several functions and of the crates above use.
 pub mod Edges
+pub mod Settling
 pub mod Judging
 pub mod Lengths
 pub mod Arguments

@@ -19,7 +19,7 @@ use Rattle.blocks.specs.declared.Place.{Place}
 use Rattle.blocks.specs.declared.Place.the-variants.{At, Nothing}
 use Rattle.blocks.specs.declared.Referent.{Referent}
 use Rattle.blocks.specs.declared.Referent.the-variants.{Found}
-use Rattle.blocks.proofs.Booleans.{or-false-right}
+use Rattle.common.proofs.Booleans.{or-false-right}
 use Rattle.blocks.proofs.Floors.{pow-split}
 use Rattle.blocks.proofs.Orders.{Needed, needed-order}
 use Rattle.blocks.proofs.Places.{place-sound, range-inside}
@@ -31,7 +31,8 @@ use Rattle.heap.specs.Heaps.{heapOf, heapView, stamped, entered, heapSte
 use Rattle.heap.specs.Judging.{Ready, located}
 use Rattle.heap.specs.declared.Call.the-variants.{Get, Give}
 use Rattle.heap.specs.declared.refusals.Located.the-variants.{Inside}
-use Rattle.heap.proofs.Judging.{answer, argument-clear, step-refused, step-accepted}
+use Rattle.heap.proofs.Settling.{answer}
+use Rattle.heap.proofs.Judging.{argument-clear, step-refused, step-accepted}
 use Rattle.heap.proofs.Accesses.{Within, home-first}
 use Rattle.heap.proofs.Homes.{located-inside}
 

@@ -1,5 +1,5 @@
 -- Showing a sample, by what left answers for the same p.
-use Prim.Native.Nat.{ℕ, zero, suc, _+_, _-_, _^_, _≤_}
+use Prim.Native.Nat.{ℕ, _+_, _-_, _^_, _≤_}
 use mathlib.Core.Path.{_≡_, refl, sym, _∙_, ap}
 use mathlib.Core.Bool.{Bool, true, false, cond, false≢true}
 use mathlib.Core.List.{List, []}
@@ -14,21 +14,15 @@ use Rattle.blocks.specs.declared.Referent.{Referent}
 use Rattle.blocks.specs.declared.Referent.the-variants.{Missing, Found}
 use Rattle.heap.specs.Views.{slotOrder, referentOfPointer, leftFrom}
 use Rattle.heap.specs.Rules.{argumentRules, stateRules, rules}
-use Rattle.heap.specs.Effects.{value, settled}
+use Rattle.heap.specs.Effects.{value}
 use Rattle.heap.specs.Heaps.{Heap, heapOf, viewOf, heapStep, heapCall, pointerNumber, shown, shownByLeft, shownFrom, outcome}
 use Rattle.heap.specs.Judging.{Ready}
 use Rattle.heap.specs.declared.Answer.{Answer}
 use Rattle.heap.specs.declared.Call.the-variants.{Left}
-use Rattle.heap.proofs.Judging.{clear, argument-clear, accepted-ready, address-left}
+use Rattle.common.proofs.Refusals.{clear}
+use Rattle.heap.proofs.Judging.{argument-clear, accepted-ready, address-left}
+use Rattle.heap.proofs.Settling.{settled-number, settled-value}
 use Rattle.heap.proofs.Accesses.{plain-within}
-
-settled-number : {S : Type 0} (k v : ℕ) (old new : S) → settled k old v new .answer .number ≡ k
-settled-number zero v old new = refl
-settled-number (suc k) v old new = refl
-
-settled-value : {S : Type 0} (k v : ℕ) (old new : S) → k ≡ 0 → settled k old v new .answer .value ≡ v
-settled-value zero v old new z = refl
-settled-value (suc k) v old new z = absurd (omega arith)
 
 module _ (p : ℕ) (h : Heap) where
   -- show's number is left's

@@ -17,7 +17,7 @@ use Rattle.blocks.specs.Seeking.{fromZero}
 use Rattle.blocks.specs.Tables.{referentIn}
 use Rattle.blocks.specs.declared.Referent.{Referent}
 use Rattle.blocks.specs.declared.Referent.the-variants.{Found}
-use Rattle.blocks.proofs.Booleans.{and-right, and-both, or-right}
+use Rattle.common.proofs.Booleans.{and-right, and-both, or-right}
 use Rattle.blocks.proofs.Checks.{check-holds}
 use Rattle.heap.specs.Views.{View, referentOfPointer}
 use Rattle.heap.specs.Rules.{homeRules, beyond, stateRules, addressRules}
@@ -27,7 +27,8 @@ use Rattle.heap.specs.Judging.{Sound, Ready, Holding, steppedIn, located
 use Rattle.heap.specs.declared.Answer.{Answer}
 use Rattle.heap.specs.declared.Call.the-variants.{Step}
 use Rattle.heap.specs.declared.refusals.Located.the-variants.{Refused, Inside}
-use Rattle.heap.proofs.Judging.{answer, settled-refused, ready-first, sound-sized, sizes-right}
+use Rattle.heap.proofs.Settling.{answer, settled-refused}
+use Rattle.heap.proofs.Judging.{ready-first, sound-sized, sizes-right}
 use Rattle.heap.proofs.Homes.{located-refused, located-inside}
 use Rattle.heap.proofs.Accesses.{found-within, home-first}
 

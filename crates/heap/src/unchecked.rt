@@ -14,13 +14,10 @@ use blocks::Referent;
 ghost use mathlib.Core.Path.{_≡_};
 ghost use Prim.Native.Nat.{_+_, _-_, _^_, _≤_, _<_, min, max};
 ghost use mathlib.Core.Bool.{false};
-ghost use mathlib.Core.List.{[]};
-ghost use lib.ListN.{length};
-ghost use Rattle.blocks.specs.Tables.{damagedBy};
 ghost use Rattle.blocks.specs.Pointers.{marked};
 ghost use Rattle.blocks.specs.Blocks.{base, leftIn};
-ghost use Rattle.heap.specs.Heaps.{heapOf, heapView, outcome, heapStep, checkStep};
-ghost use Rattle.heap.specs.Judging.{Sound, Ready, Holding, steppedIn, located, numberIn};
+ghost use Rattle.heap.specs.Heaps.{heapOf, outcome, heapStep, checkStep};
+ghost use Rattle.heap.specs.Judging.{Sound, Ready, Holding, steppedIn};
 
 fn least(a: u32, b: u32) -> u32
     ensures { λ r. ⌜ r ≡ min a b ⌝ }
@@ -162,30 +159,22 @@ pub fn left(arena: &[u8], table: &[u8], t: u32, m: u32, p: u32) -> Answer
     }
 }
 
-// The refusal of a copy's two pointers, 0 for none: the number decides, not the pointer, and the one that comes later in a pointer's own list is the lesser.
-fn both_refused(table: &[u8], t: u32, m: u32, p: u32, q: u32) -> u32
-    requires { ⌜ (1 ≤ t) × (t ≤ m) × (m ≤ 16) × (length (now table) ≡ 2 ^ (m - t)) × (damagedBy t m (now table) ≡ false) ⌝ }
-    ensures { λ r. ⌜ r ≡ max (numberIn (located (heapView t m (heapOf [] (now (table .entry)))) p)) (numberIn (located (heapView t m (heapOf [] (now (table .entry)))) q)) ⌝ }
-{
-    greatest(
-        number_of(locate(table, t, m, p)),
-        number_of(locate(table, t, m, q)),
-    )
-}
-
+// Of two pointers that are refused the greater number counts: whichever pointer has it, its rule comes first.
 pub fn copy(arena: &mut [u8], table: &[u8], t: u32, m: u32, p: u32, q: u32, n: u32) -> Answer
     requires { ⌜ Ready t m (Call.Copy p q n) (now arena) (now table) ⌝ }
     ensures { λ r. ⌜ outcome r (now (arena .exit)) (now (table .entry)) ≡ heapStep t m (Call.Copy p q n) (heapOf (now (arena .entry)) (now (table .entry))) ⌝ }
 {
-    let Located::Inside(s, e) = locate(table, t, m, p) else {
-        return refused(both_refused(table, t, m, p, q));
-    };
-    let Located::Inside(z, k) = locate(table, t, m, q) else {
-        return refused(both_refused(table, t, m, p, q));
-    };
-    let c = least(n, least(left_in(s, e, p), left_in(z, k, q)));
-    common::copy(arena, offset(p), offset(q), c as usize);
-    accepted(c)
+    match locate(table, t, m, p) {
+        Located::Refused(number) => refused(greatest(number, number_of(locate(table, t, m, q)))),
+        Located::Inside(s, e) => match locate(table, t, m, q) {
+            Located::Refused(other) => refused(other),
+            Located::Inside(z, k) => {
+                let c = least(n, least(left_in(s, e, p), left_in(z, k, q)));
+                common::copy(arena, offset(p), offset(q), c as usize);
+                accepted(c)
+            }
+        },
+    }
 }
 
 pub fn fill(arena: &mut [u8], table: &[u8], t: u32, m: u32, p: u32, v: u8, n: u32) -> Answer

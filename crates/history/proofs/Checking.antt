@@ -1,7 +1,7 @@
 -- On a heap that agrees with a ledger: the check passes for the addresses of the block alone, and a marked pointer in reach of a block leads back to it.
 use Prim.Native.Nat.{ℕ, zero, suc, _+_, _-_, _*_, _%_, _^_, _≤_, _<_}
 use mathlib.Core.Path.{_≡_, refl, sym, _∙_, ap}
-use mathlib.Core.Bool.{Bool, true, false, _&&_, _||_, false≢true}
+use mathlib.Core.Bool.{true, false, _&&_, false≢true}
 use mathlib.Core.Logic.{_⊎_, inl, inr}
 use mathlib.Core.List.{List, [], _∷_, List·Memᴰ, List·Memᴰ·head, List·Memᴰ·tail}
 use native.Mathlib.Nat.{add-sub-cancel-left, add-mul, suc-mul}
@@ -16,7 +16,7 @@ use borrow.Author.Tests.{leb-true, ltb-true, le-leb, lt-leb, lt-ltb, le-ltb}
 use Rattle.blocks.specs.Blocks.{base, Block, holds, Aligned}
 use Rattle.blocks.specs.Pointers.{markBit, marked, address, sought, signed, exactSum, within, inReach}
 use Rattle.blocks.specs.declared.Referent.the-variants.{Found}
-use Rattle.blocks.proofs.Booleans.{and-left, and-right}
+use Rattle.common.proofs.Booleans.{and-left, and-right, or-cases}
 use Rattle.blocks.proofs.Floors.{pow-split}
 use Rattle.blocks.proofs.Sets.{held-high, missing-none, member-found}
 use Rattle.blocks.proofs.Slots.{slots-of}
@@ -48,10 +48,6 @@ places-apart (more {bs = bs} a d p) zero (suc j) b l h q x y = false≢true (sym
 places-apart (more a d p) (suc i) (suc j) b l h q x y = places-apart p i j b (omega arith) (omega arith) q x y
 
 -- ---- marked pointers
-
-or-cases : (a b : Bool) → a || b ≡ true → (a ≡ true) ⊎ (b ≡ true)
-or-cases true b h = inl refl
-or-cases false b h = inr h
 
 marked-mark : (r : ℕ) → marked (markBit + r) ≡ true
 marked-mark r = le-leb markBit (markBit + r) (omega arith)

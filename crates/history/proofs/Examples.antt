@@ -20,7 +20,7 @@ use Rattle.heap.specs.Heaps.{Heap, heapOf, insideByCheck, entered, heapStep, he
 use Rattle.heap.specs.declared.Answer.{Answer}
 use Rattle.heap.specs.declared.Call.{Call}
 use Rattle.heap.specs.declared.Call.the-variants.{Get, Give, Step, Read, Write, Left, Copy, Fill}
-use Rattle.heap.proofs.Judging.{answer}
+use Rattle.heap.proofs.Settling.{answer}
 use Rattle.history.specs.Runs.{Run, run}
 use Rattle.history.specs.Noninterference.{reveals, sourceIn, noneBarred, EqualOutside, Twins, Undisclosed}
 use Rattle.history.proofs.Pairs.{holds-by}

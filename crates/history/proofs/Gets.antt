@@ -14,7 +14,7 @@ use Rattle.blocks.specs.Sets.{referentOf}
 use Rattle.blocks.specs.declared.Place.{Place}
 use Rattle.blocks.specs.declared.Place.the-variants.{At, Nothing}
 use Rattle.blocks.specs.declared.Referent.the-variants.{Missing}
-use Rattle.blocks.proofs.Booleans.{or-false-right}
+use Rattle.common.proofs.Booleans.{or-false-right}
 use Rattle.blocks.proofs.Floors.{pow-split}
 use Rattle.blocks.proofs.Orders.{Needed, needed-order}
 use Rattle.blocks.proofs.Places.{range-inside, FreePlace, place-sound}
@@ -22,7 +22,7 @@ use Rattle.blocks.proofs.Slots.{block, Slots, aligned-of}
 use Rattle.heap.specs.Views.{View, neededFor, placeFor, noPlace, placeAddress, startFor}
 use Rattle.heap.specs.Rules.{rules, argumentRules, stateRules}
 use Rattle.heap.specs.declared.Call.the-variants.{Get}
-use Rattle.heap.proofs.Judging.{clear}
+use Rattle.common.proofs.Refusals.{clear}
 use Rattle.history.specs.Ledgers.{Ledger, ledgerView}
 use Rattle.history.proofs.Agreement.{Proper, Orders}
 use Rattle.history.proofs.Pairs.{unheld, free-slots}

@@ -17,7 +17,7 @@ use Rattle.blocks.specs.Sets.{referentOf}
 use Rattle.blocks.specs.Pointers.{marked}
 use Rattle.blocks.specs.declared.Referent.{Referent}
 use Rattle.blocks.specs.declared.Referent.the-variants.{Missing, Found}
-use Rattle.blocks.proofs.Booleans.{and-false-left, or-false-left, or-false-right}
+use Rattle.common.proofs.Booleans.{and-false-left, or-false-left, or-false-right}
 use Rattle.blocks.proofs.Sets.{held-low, held-high}
 use Rattle.blocks.proofs.Slots.{block}
 use Rattle.blocks.proofs.Tables.{none-passes}
@@ -27,7 +27,7 @@ use Rattle.heap.specs.Effects.{copyCount, value, stored}
 use Rattle.heap.specs.Changes.{Change, adds, removes, keeps, changeOf}
 use Rattle.heap.specs.declared.Call.{Call}
 use Rattle.heap.specs.declared.Call.the-variants.{Get, Give, Step, Read, Write, Left, Copy, Fill}
-use Rattle.heap.proofs.Judging.{clear}
+use Rattle.common.proofs.Refusals.{clear}
 use Rattle.heap.proofs.Changes.{Changing, gets, gives-back, keeps-all, changing}
 use Rattle.history.specs.Ledgers.{Ledger, ledgerView, without, kept}
 use Rattle.history.specs.Histories.{gives, givesBack}

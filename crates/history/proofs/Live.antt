@@ -1,13 +1,12 @@
 -- The blocks live by the history of a ledger's calls are the pairs that it has after them.
 use Prim.Native.Nat.{ℕ, zero, suc}
-use mathlib.Core.Path.{_≡_, refl, sym, _∙_, ap}
+use mathlib.Core.Path.{_≡_, refl, _∙_, ap}
 use mathlib.Core.Bool.{Bool, true, false, cond, _&&_, _||_, and-false}
 use mathlib.Core.List.{List, [], _∷_, _++_, append-nil, append-assoc}
 use lib.Dec.{eqb}
-use borrow.Author.Tests.{eqb-true, eqb-false, eq-eqb, ne-eqb}
 use Rattle.common.specs.Refusals.{first}
 use Rattle.blocks.specs.Blocks.{Block}
-use Rattle.blocks.proofs.Booleans.{eqb-suc}
+use Rattle.common.proofs.Booleans.{eqb-suc, eqb-swap}
 use Rattle.heap.specs.Views.{View}
 use Rattle.heap.specs.Rules.{rules}
 use Rattle.heap.specs.Effects.{value, stored, Outcome, settled}
@@ -46,13 +45,6 @@ remains-append cs xs (a ∷ rest) bs = rw (remains-append cs xs rest bs) (go (gi
         ≡ cond u (remains cs xs rest) (a ∷ remains cs xs rest) ++ remains cs xs bs
     go true = refl
     go false = refl
-
-eqb-swap : (a b : ℕ) → eqb a b ≡ eqb b a
-eqb-swap a b = go (eqb b a) refl
-  where
-    go : (u : Bool) → eqb b a ≡ u → eqb a b ≡ u
-    go true e = eq-eqb a b (sym (eqb-true b a e))
-    go false e = ne-eqb a b (λ q. eqb-false b a e (sym q))
 
 module _ (t m : ℕ) (cs : List Call) (xs : List Answer) where
   -- what the later calls leave of the pairs bs, and the blocks that they got

@@ -20,7 +20,7 @@ use Rattle.blocks.specs.Sets.{referentOf}
 use Rattle.blocks.specs.Orders.{orderOf}
 use Rattle.blocks.specs.declared.Referent.{Referent}
 use Rattle.blocks.specs.declared.Referent.the-variants.{Found}
-use Rattle.blocks.proofs.Booleans.{and-left, and-right, or-false-left, or-false-right, or-true-right, eqb-suc}
+use Rattle.common.proofs.Booleans.{and-left, and-right, or-false-left, or-false-right, or-true-right, eqb-suc}
 use Rattle.heap.specs.Views.{View, slotOrder}
 use Rattle.heap.specs.Rules.{rules}
 use Rattle.heap.specs.Effects.{value, stored, Outcome, settled, judged}

@@ -10,7 +10,7 @@ use Rattle.blocks.specs.Blocks.{base, Block, holds, Aligned, missing}
 use Rattle.blocks.specs.Sets.{referentOf, BlockSet}
 use Rattle.blocks.specs.declared.Referent.{Referent}
 use Rattle.blocks.specs.declared.Referent.the-variants.{Missing, Found}
-use Rattle.blocks.proofs.Booleans.{and-both}
+use Rattle.common.proofs.Booleans.{and-both}
 use Rattle.blocks.proofs.Sets.{found-member, missing-none, member-found, referent-slot}
 use Rattle.blocks.proofs.Slots.{block, slotOf, Slots, held-slots}
 use Rattle.history.specs.Ledgers.{without}

@@ -18,7 +18,8 @@ use Rattle.heap.specs.Judging.{Sound}
 use Rattle.heap.specs.Answers.{answerLength, answerBytes, answersBytes}
 use Rattle.heap.specs.declared.Answer.{Answer}
 use Rattle.heap.specs.declared.Call.{Call}
-use Rattle.heap.proofs.Judging.{clear, Sized, Ordered}
+use Rattle.common.proofs.Refusals.{clear}
+use Rattle.heap.proofs.Judging.{Sized, Ordered}
 use Rattle.heap.proofs.AnswerBytes.{answers-next, answers-none}
 use Rattle.history.specs.Ledgers.{Ledger, ledgerStep, emptyLedger}
 use Rattle.history.specs.Runs.{run}

@@ -1,7 +1,7 @@
 -- 21 is the answer of exactly the gets for which no free range is large enough.
-use Prim.Native.Nat.{ℕ, zero, suc, _+_, _-_, _*_, _^_, _≤_, _<_}
+use Prim.Native.Nat.{ℕ, suc, _+_, _-_, _*_, _^_, _≤_, _<_}
 use mathlib.Core.Path.{_≡_, refl, sym, _∙_, ap, subst}
-use mathlib.Core.Bool.{Bool, true, false, not, cond, _&&_, _||_, false≢true}
+use mathlib.Core.Bool.{Bool, true, false, cond, _||_, false≢true}
 use mathlib.Core.List.{List, [], _∷_, _++_, List·Memᴰ}
 use native.Mathlib.Nat.{le-refl, suc-mul, zero-add, le-of-mul-le-mul-right}
 use native.Mathlib.Omega.{arith}
@@ -9,13 +9,13 @@ use lib.Dec.{ltb, eqb}
 use lib.ListN.{length, getD, take}
 use lib.Pow.{pow-pos}
 use lib.Seq.{take-at, getD-at}
-use borrow.Author.Tests.{not-true, eqb-false, ne-eqb, ltb-false, le-ltb}
-use Rattle.common.specs.Refusals.{Refusal, _when_, first}
+use borrow.Author.Tests.{eqb-false, ne-eqb, ltb-false, le-ltb}
+use Rattle.common.specs.Refusals.{first}
 use Rattle.blocks.specs.Blocks.{base, Block, holds, Aligned, missing}
 use Rattle.blocks.specs.Placing.{allFree, rangeStart, freeRange, placeIn}
 use Rattle.blocks.specs.declared.Place.{Place}
 use Rattle.blocks.specs.declared.Place.the-variants.{At, Nothing}
-use Rattle.blocks.proofs.Booleans.{and-left, and-right, or-false-left, or-false-right, true-together}
+use Rattle.common.proofs.Booleans.{or-false-left, or-false-right, true-together}
 use Rattle.blocks.proofs.Halves.{sizes}
 use Rattle.blocks.proofs.Places.{place-complete}
 use Rattle.blocks.proofs.Runs.{at-all}
@@ -23,7 +23,7 @@ use Rattle.blocks.proofs.Sets.{missing-none, none-missing}
 use Rattle.blocks.proofs.Slots.{slot-start, Slots, slots-of, slots-held}
 use Rattle.heap.specs.Views.{View, neededFor, placeFor, noPlace}
 use Rattle.heap.specs.Rules.{rules, argumentRules, stateRules}
-use Rattle.heap.specs.Effects.{settled, Outcome}
+use Rattle.heap.specs.Effects.{Outcome}
 use Rattle.heap.specs.Changes.{changeOf}
 use Rattle.heap.specs.declared.Answer.{Answer}
 use Rattle.heap.specs.declared.Call.{Call}
@@ -31,6 +31,8 @@ use Rattle.heap.specs.declared.Call.the-variants.{Get, Give, Step, Read, Write,
 use Rattle.history.specs.Ledgers.{Ledger, ledgerView, ledgerStep, emptyLedger}
 use Rattle.history.specs.Runs.{Run, run}
 use Rattle.history.specs.Histories.{liveBy, FreeRange, Starved, StarvedGet}
+use Rattle.common.proofs.Refusals.{not-given}
+use Rattle.heap.proofs.Settling.{settled-number}
 use Rattle.history.proofs.Agreement.{Proper, Orders}
 use Rattle.history.proofs.Live.{lives}
 use Rattle.history.proofs.Pairs.{unheld}
@@ -72,28 +74,10 @@ got-free os l proper n e =
 
 -- ---- the number 21
 
--- a number that no refusal of the list has is not given
-lacks : ℕ → List Refusal → Bool
-lacks k [] = true
-lacks k ((n when b) ∷ rs) = not (eqb n k) && lacks k rs
-
-not-given : (k : ℕ) (rs : List Refusal) → lacks (suc k) rs ≡ true → first rs ≡ suc k → ⊥
-unfolding lacks
-not-given k [] h e = omega arith
-not-given k ((n when b) ∷ rs) h e = go b e (not-given k rs (and-right (not (eqb n (suc k))) _ h))
-  where
-    go : (b : Bool) → cond b n (first rs) ≡ suc k → (first rs ≡ suc k → ⊥) → ⊥
-    go true q ih = eqb-false n (suc k) (not-true _ (and-left _ _ h)) q
-    go false q ih = ih q
-
-settled-number : {S : Type 0} (n : ℕ) (old : S) (v : ℕ) (new : S) → settled n old v new .answer .number ≡ n
-settled-number zero old v new = refl
-settled-number (suc n) old v new = refl
-
 -- the number that a call answers is the first of its refusals
 number-is : (t m : ℕ) (c : Call) (l : Ledger) → ledgerStep t m c l .answer .number ≡ first (rules c (ledgerView t m l))
 unfolding ledgerStep
-number-is t m c l = settled-number (first (rules c (ledgerView t m l))) l _ _
+number-is t m c l = settled-number (first (rules c (ledgerView t m l))) _ l _
 
 -- the number n is 21 for exactly a starved get
 abbrev Tells : (t m : ℕ) → List Block → Call → ℕ → Type 0
@@ -129,7 +113,7 @@ module _ {t m : ℕ} (os : Orders t m) (l : Ledger) (proper : Proper t m (l .pai
 
   -- by the rules of each call
   starved-by-rules : (c : Call) → Tells t m (l .pairs) c (first (rules c w))
-  unfolding rules argumentRules stateRules lacks
+  unfolding rules argumentRules stateRules
   starved-by-rules (Get n) = (full-starved n, starved-full n)
   starved-by-rules (Give p) = (not-given 20 (rules (Give p) w) refl, λ x. absurd x)
   starved-by-rules (Step p i) = (not-given 20 (rules (Step p i) w) refl, λ x. absurd x)

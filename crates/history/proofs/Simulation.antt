@@ -29,7 +29,8 @@ use Rattle.heap.specs.Changes.{Change, changeOf}
 use Rattle.heap.specs.Judging.{Sound}
 use Rattle.heap.specs.declared.Call.{Call}
 use Rattle.heap.specs.declared.Call.the-variants.{Give}
-use Rattle.heap.proofs.Judging.{clear, sound-sized, sizes-right}
+use Rattle.common.proofs.Refusals.{clear}
+use Rattle.heap.proofs.Judging.{sound-sized, sizes-right}
 use Rattle.heap.proofs.Changes.{Changing, gets, gives-back, keeps-all, changing}
 use Rattle.history.specs.Ledgers.{Ledger, ledgerView, without, kept, ledgerStep}
 use Rattle.history.proofs.Agreement.{Proper, Orders, Agree, Same}

@@ -12,7 +12,7 @@ use Rattle.blocks.specs.Sets.{referentOf}
 use Rattle.blocks.specs.Tables.{referentIn}
 use Rattle.blocks.specs.Pointers.{marked}
 use Rattle.blocks.specs.declared.Referent.the-variants.{Found}
-use Rattle.blocks.proofs.Booleans.{or-false-right, eqb-suc}
+use Rattle.common.proofs.Booleans.{or-false-right, eqb-suc}
 use Rattle.blocks.proofs.Sets.{found-member}
 use Rattle.blocks.proofs.Slots.{block}
 use Rattle.blocks.proofs.Tables.{any-false}
@@ -23,7 +23,8 @@ use Rattle.heap.specs.Heaps.{Heap, heapOf, heapView, viewOf, entered, heapStep,
 use Rattle.heap.specs.Changes.{changeOf}
 use Rattle.heap.specs.declared.Call.{Call}
 use Rattle.heap.specs.declared.Call.the-variants.{Get, Give, Step, Read, Write, Left, Copy, Fill}
-use Rattle.heap.proofs.Judging.{clear, accepted-ready}
+use Rattle.common.proofs.Refusals.{clear}
+use Rattle.heap.proofs.Judging.{accepted-ready}
 use Rattle.history.specs.Ledgers.{Ledger, ledgerView}
 use Rattle.history.specs.Demand3.{accepted}
 use Rattle.history.specs.Noninterference.{reveals, sourceIn}

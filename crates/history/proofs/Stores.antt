@@ -15,7 +15,7 @@ use Rattle.blocks.specs.Sets.{referentOf}
 use Rattle.blocks.specs.Pointers.{marked, sought}
 use Rattle.blocks.specs.declared.Referent.{Referent}
 use Rattle.blocks.specs.declared.Referent.the-variants.{Missing, Found}
-use Rattle.blocks.proofs.Booleans.{or-false-left, or-false-right}
+use Rattle.common.proofs.Booleans.{or-false-left, or-false-right}
 use Rattle.blocks.proofs.Sets.{held-low, held-high, found-member, found-aligned}
 use Rattle.blocks.proofs.Slots.{block}
 use Rattle.heap.specs.Views.{View, referentOfPointer, leftFrom, neededFor, startFor}
@@ -23,7 +23,7 @@ use Rattle.heap.specs.Rules.{rules, argumentRules, stateRules, dead}
 use Rattle.heap.specs.Effects.{copyCount, fillCount, stored}
 use Rattle.heap.specs.declared.Call.{Call}
 use Rattle.heap.specs.declared.Call.the-variants.{Get, Give, Step, Read, Write, Left, Copy, Fill}
-use Rattle.heap.proofs.Judging.{clear}
+use Rattle.common.proofs.Refusals.{clear}
 use Rattle.history.specs.Ledgers.{Ledger, ledgerView}
 use Rattle.history.proofs.Agreement.{Proper, Orders}
 use Rattle.history.proofs.Gets.{got-placed}

@@ -8,6 +8,7 @@ use lib.Dec.{eqb, ltb}
 use lib.ListN.{length}
 use borrow.Author.Tests.{eqb-true, eqb-false, ne-eqb, lt-ltb, le-ltb, ltb-false}
 use Rattle.common.specs.Refusals.{first}
+use Rattle.common.proofs.Refusals.{clear-one, clear-number}
 use Rattle.takes.specs.Files.{sizeByte, fileNumber, recordsOf, judgement}
 use Rattle.takes.specs.declared.Judgement.{Judgement}
 use Rattle.heap.specs.Views.{slotOrder}
@@ -17,7 +18,7 @@ use Rattle.heap.specs.Registers.{registersAtFirst}
 use Rattle.runner.specs.Runs.{RunOutcome, screenful, crowded, runRules, runSettled, runBy, runOf}
 use Rattle.runner.specs.Carrying.{State, stateOf, atFirst, allRecords, Runnable, mostRecords, ranTo}
 use Rattle.runner.specs.declared.Ran.{Ran}
-use Rattle.runner.proofs.Files.{clear, unless, few-records}
+use Rattle.runner.proofs.Files.{few-records}
 
 pub judge-refused : (file : List ℕ) (j : Judgement) → j ≡ judgement file → (j .number ≡ 0 → ⊥) → fileNumber file ≡ j .number
 judge-refused file j e d = go (eqb (fileNumber file) 0) e
@@ -117,9 +118,9 @@ ran-room file out h r a tab out′ e z = go (first (runRules false file h out)) 
     go zero k e =
         let short : Bool = ltb (length out) (answerLength * length (recordsOf file)) in
         let wrong : Bool = wrongSizes slotOrder (sizeByte file) h in
-        let two = unless (fileNumber file) (cond wrong 8 (cond short 9 0)) k in
-        let three = clear 8 wrong (cond short 9 0) (λ z. omega arith) (two .1) in
-        let four = clear 9 short 0 (λ z. omega arith) (three .1) in
+        let two = clear-number (fileNumber file) (cond wrong 8 (cond short 9 0)) k in
+        let three = clear-one 8 wrong (cond short 9 0) (λ z. omega arith) (two .1) in
+        let four = clear-one 9 short 0 (λ z. omega arith) (three .1) in
         omega (arith, ltb-false (length out) (answerLength * length (recordsOf file)) (four .0), ap (λ (o : RunOutcome). o .count) e)
     go (suc k) q e = absurd (omega (arith, ap (λ (o : RunOutcome). o .number) e))
 

@@ -7,11 +7,11 @@ use native.Mathlib.Omega.{arith}
 use lib.ListN.{length}
 use borrow.Author.Tests.{ne-eqb, lt-ltb, le-ltb}
 use Rattle.common.specs.Refusals.{first}
+use Rattle.common.proofs.Refusals.{clear-one, clear-number}
 use Rattle.takes.specs.Files.{fileNumber, recordsOf}
 use Rattle.heap.specs.Heaps.{Heap}
 use Rattle.runner.specs.Runs.{screenful, crowded, runRules, runSettled, runBy, runOf, panelOf}
 use Rattle.runner.specs.Panel.{PanelAsUpload}
-use Rattle.runner.proofs.Files.{clear, unless}
 
 module _ (file : List ℕ) (h : Heap) (out : List ℕ) where
   settled-number : (k : ℕ) → runSettled k file h out .number ≡ k
@@ -27,8 +27,8 @@ module _ (file : List ℕ) (h : Heap) (out : List ℕ) where
   accepted-listed : panelOf file h out .number ≡ 0 → crowded file ≡ false
   unfolding runBy
   accepted-listed z =
-      let clean = unless (fileNumber file) _ (sym (settled-number (first (runRules true file h out))) ∙ z) .1 in
-      clear 26 (crowded file) _ (λ z. omega arith) clean .0
+      let clean = clear-number (fileNumber file) _ (sym (settled-number (first (runRules true file h out))) ∙ z) .1 in
+      clear-one 26 (crowded file) _ (λ z. omega arith) clean .0
 
   bad-file : (fileNumber file ≡ 0 → ⊥) → panelOf file h out ≡ runOf file h out
   unfolding runBy

@@ -1,7 +1,7 @@
 -- Fields one after the other: where each stands, and that they are written and read back.
 use Prim.Native.Nat.{ℕ, zero, suc, _+_, _^_, _≤_, _<_}
 use mathlib.Core.Path.{_≡_, refl, sym, _∙_, ap, ap₂}
-use mathlib.Core.Bool.{Bool, true, false, false≢true, _||_}
+use mathlib.Core.Bool.{Bool, true, false, false≢true}
 use mathlib.Core.List.{List, [], _∷_, _++_, append-assoc}
 use native.Mathlib.Omega.{arith}
 use native.Mathlib.Nat.{add-zero}
@@ -12,19 +12,12 @@ use borrow.Author.Tests.{lt-leb, leb-false}
 use Rattle.common.specs.Bytes.{bigEndian, bytesOf}
 use Rattle.common.proofs.Bytes.{length-bytesOf}
 use Rattle.heap.specs.Registers.{registerCount}
+use Rattle.common.proofs.Booleans.{or-false-left, or-false-right}
 use Rattle.takes.specs.Operations.{Kind, register, byte, word, size, sizes}
 use Rattle.takes.specs.Reading.{values, isHigh, highRegister}
 use Rattle.takes.specs.Writing.{valueBytes}
 use Rattle.takes.specs.RoundTrips.{Fits, AllFit, Bytes}
 use Rattle.takes.proofs.Numbers.{bytes-drop, number-drop, number-forth, number-back}
-
-pub or-left : (a b : Bool) → (a || b) ≡ false → a ≡ false
-or-left true b h = h
-or-left false b h = refl
-
-pub or-right : (a b : Bool) → (a || b) ≡ false → b ≡ false
-or-right true b h = absurd (false≢true (sym h))
-or-right false b h = h
 
 -- where the field k starts, and what it is: the number that stands there
 abbrev pub start : List Kind → ℕ → ℕ
@@ -99,7 +92,7 @@ isRegister (κ ∷ ks) (suc k) = isRegister ks k
 pub low-field : (ks : List Kind) (vs : List ℕ) (k : ℕ) → highRegister ks vs ≡ false → isRegister ks k ≡ true → getD vs k 0 < registerCount
 low-field [] vs k h e = absurd (false≢true e)
 low-field (κ ∷ ks) [] k h e = omega arith
-low-field (register ∷ ks) (v ∷ vs) zero h e = leb-false registerCount v (or-left (leb registerCount v) (highRegister ks vs) h)
+low-field (register ∷ ks) (v ∷ vs) zero h e = leb-false registerCount v (or-false-left (leb registerCount v) (highRegister ks vs) h)
 low-field (byte ∷ ks) (v ∷ vs) zero h e = absurd (false≢true e)
 low-field (word ∷ ks) (v ∷ vs) zero h e = absurd (false≢true e)
-low-field (κ ∷ ks) (v ∷ vs) (suc k) h e = low-field ks vs k (or-right (isHigh κ v) (highRegister ks vs) h) e
+low-field (κ ∷ ks) (v ∷ vs) (suc k) h e = low-field ks vs k (or-false-right (isHigh κ v) (highRegister ks vs) h) e

@@ -13,8 +13,7 @@ use Rattle.takes.specs.Files.{Walk, ended, walkFrom, headLength, longest
 use Rattle.takes.specs.Files.{headNumber, recordsNumber, fileNumber, recordsOf, judgement}
 use Rattle.takes.specs.Writing.{headBytes}
 use Rattle.takes.specs.declared.Record.{Record}
-use Rattle.takes.proofs.Operations.{and-left, and-right}
-use Rattle.takes.proofs.Fields.{or-left, or-right}
+use Rattle.common.proofs.Booleans.{and-left, and-right, or-false-left, or-false-right}
 use Rattle.takes.proofs.Readings.{refused-reading}
 use Rattle.takes.proofs.Walks.{Next, from-end, from-refused}
 
@@ -38,10 +37,10 @@ head-accepted s h = by-1 (test-1 s) refl h
     by-3 : test-1 s ≡ false → test-2 s ≡ false → (b : Bool) → ltb longest (length s) ≡ b → _≡_ {A = ℕ} (cond b 3 0) 0 → Head s
     by-3 p q true e h = absurd (omega arith)
     by-3 p q false e h =
-        let m : isArenaOrder (sizeByte s) ≡ true = not-false (isArenaOrder (sizeByte s)) (or-right (ltb (length s) headLength) (not (isArenaOrder (sizeByte s))) q) in
+        let m : isArenaOrder (sizeByte s) ≡ true = not-false (isArenaOrder (sizeByte s)) (or-false-right (ltb (length s) headLength) (not (isArenaOrder (sizeByte s))) q) in
         record {
-          first-byte = eqb-true (getD s 0 0) 1 (not-false (eqb (getD s 0 0) 1) (or-right (eqb (length s) 0) (not (eqb (getD s 0 0) 1)) p));
-          both = ltb-false (length s) headLength (or-left (ltb (length s) headLength) (not (isArenaOrder (sizeByte s))) q);
+          first-byte = eqb-true (getD s 0 0) 1 (not-false (eqb (getD s 0 0) 1) (or-false-right (eqb (length s) 0) (not (eqb (getD s 0 0) 1)) p));
+          both = ltb-false (length s) headLength (or-false-left (ltb (length s) headLength) (not (isArenaOrder (sizeByte s))) q);
           low = leb-true smallestOrder (sizeByte s) (and-left (leb smallestOrder (sizeByte s)) (leb (sizeByte s) largestOrder) m);
           high = leb-true (sizeByte s) largestOrder (and-right (leb smallestOrder (sizeByte s)) (leb (sizeByte s) largestOrder) m);
           short = ltb-false longest (length s) e;

@@ -17,7 +17,7 @@ use Rattle.takes.specs.Reading.{lengthByte, operationByte, fieldValues, 
 use Rattle.takes.specs.Table.{digits, rowOf}
 use Rattle.takes.specs.declared.Record.{Record}
 use Rattle.takes.proofs.Operations.{row-none, row-known, row-length, row-kinds}
-use Rattle.takes.proofs.Fields.{or-left, or-right}
+use Rattle.common.proofs.Booleans.{or-false-left, or-false-right}
 
 -- some bytes start with a record that passes 4 to 7
 pub record Whole (bs : List ℕ) : Type 0 where
@@ -76,8 +76,8 @@ module _ (bs : List ℕ) (at : ℕ) where
       by-7 h k l false e =
           inl
           (record {
-            nonzero = eqb-false (lengthByte bs) 0 (or-left (eqb (lengthByte bs) 0) (ltb (length bs - 1) (lengthByte bs)) h);
-            enough = ltb-false (length bs - 1) (lengthByte bs) (or-right (eqb (lengthByte bs) 0) (ltb (length bs - 1) (lengthByte bs)) h);
+            nonzero = eqb-false (lengthByte bs) 0 (or-false-left (eqb (lengthByte bs) 0) (ltb (length bs - 1) (lengthByte bs)) h);
+            enough = ltb-false (length bs - 1) (lengthByte bs) (or-false-right (eqb (lengthByte bs) 0) (ltb (length bs - 1) (lengthByte bs)) h);
             listed = k;
             exact = eqb-true (lengthByte bs) (lengthOf (operationByte bs)) l;
             low = e;

@@ -16,7 +16,7 @@ use lib.ListN.{length, getD}
 use lib.Pow.{pow-pos}
 use Rattle.blocks.specs.Blocks.{floor}
 use Rattle.blocks.specs.Tables.{damagedBy}
-use Rattle.blocks.proofs.Booleans.{and-left, and-right}
+use Rattle.common.proofs.Booleans.{and-left, and-right}
 use Rattle.blocks.proofs.Floors.{floor-le, lt-floor, floor-end, pow-split}
 use Rattle.blocks.proofs.Tables.{Good, Whole, damaged-at, undamaged, order-bad, torn-bad, whole-good}
 use Rattle.blocks.proofs.Rows.{not-free, not-slot, single-good, below-both}

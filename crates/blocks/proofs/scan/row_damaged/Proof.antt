@@ -5,7 +5,7 @@ use borrow.Author.Needs.{needs}
 use denote.Ref.{now}
 use lib.ListN.{getD}
 use Rattle.blocks.specs.Searching.{inRow}
-use Rattle.blocks.proofs.Booleans.{and-left, and-right}
+use Rattle.common.proofs.Booleans.{and-left, and-right}
 use Rattle.blocks.proofs.Rows.{row-slots, even-undamaged}
 use Rattle.blocks.proofs.scan.row_damaged.Statement.{statement}
 use Rattle.blocks.proofs.scan.row_damaged.Tie as tie

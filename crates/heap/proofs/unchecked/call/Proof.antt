@@ -11,7 +11,8 @@ use Rattle.heap.specs.Heaps.{Heap, heapOf, heapView, heapStep, outcome}
 use Rattle.heap.specs.Judging.{Sound, Ready}
 use Rattle.heap.specs.declared.Answer.{Answer}
 use Rattle.heap.specs.declared.Call.{Call}
-use Rattle.heap.proofs.Judging.{answer, rules-first, sound-sized, sizes-right, refused-step}
+use Rattle.heap.proofs.Settling.{answer}
+use Rattle.heap.proofs.Judging.{rules-first, sound-sized, sizes-right, refused-step}
 use Rattle.heap.proofs.unchecked.call.Statement.{statement}
 use Rattle.heap.proofs.unchecked.call.Tie as tie
 

@@ -6,7 +6,7 @@ use borrow.Author.Needs.{needs}
 use Rattle.heap.specs.Heaps.{heapOf, heapView, bit}
 use Rattle.heap.specs.Judging.{located}
 use Rattle.heap.specs.declared.refusals.Located.the-variants.{Refused, Inside}
-use Rattle.heap.proofs.Judging.{answer}
+use Rattle.heap.proofs.Settling.{answer}
 use Rattle.heap.proofs.Stepping.{check-order, check-missing, check-found}
 use Rattle.heap.proofs.unchecked.check.Statement.{statement}
 use Rattle.heap.proofs.unchecked.check.Tie as tie

@@ -10,7 +10,7 @@ use Rattle.blocks.specs.Blocks.{base, leftIn}
 use Rattle.blocks.specs.Pointers.{marked}
 use Rattle.blocks.specs.declared.Referent.{Referent}
 use Rattle.blocks.specs.declared.Referent.the-variants.{Found}
-use Rattle.blocks.proofs.Booleans.{or-false-left, or-false-right}
+use Rattle.common.proofs.Booleans.{or-false-left, or-false-right}
 use Rattle.heap.specs.Rules.{argumentRules}
 use Rattle.heap.specs.Heaps.{heapOf, heapView, heapStep, outcome}
 use Rattle.heap.specs.Judging.{located, numberIn}
@@ -19,7 +19,7 @@ use Rattle.heap.specs.declared.Call.the-variants.{Copy}
 use Rattle.heap.specs.declared.refusals.Located.{Located}
 use Rattle.heap.specs.declared.refusals.Located.the-variants.{Refused, Inside}
 use Rattle.heap.proofs.Accesses.{Within, left-asks, at-base, room, both-refused, spot, copy-done}
-use Rattle.heap.proofs.Judging.{answer}
+use Rattle.heap.proofs.Settling.{answer}
 use Rattle.heap.proofs.unchecked.copy.Statement.{statement}
 use Rattle.heap.proofs.unchecked.copy.Tie as tie
 
@@ -34,11 +34,19 @@ module _ (e : tie.Start) where
   abbrev place : ℕ → Located
   place p = located (heapView (e .args .t) (e .args .m) (heapOf [] entries)) p
 
-  -- k, the greater of the two numbers, refuses the call where the pointer v is refused
+  -- k refuses the call where it is the greater number and the pointer v is refused
   refusing : {x : Answer} (k : ℕ) → x ≡ answer k 0 → k ≡ max (numberIn (place (e .args .p))) (numberIn (place (e .args .q))) → (v i : ℕ) → place v ≡ Refused i
       → numberIn (place v) ≤ max (numberIn (place (e .args .p))) (numberIn (place (e .args .q)))
       → outcome x bytes entries ≡ heapStep (e .args .t) (e .args .m) (Copy (e .args .p) (e .args .q) (e .args .n)) (heapOf bytes entries)
   refusing k r q v i l u = ap (λ (y : Answer). outcome y bytes entries) r ∙ both-refused _ _ _ _ _ bytes entries (e .pre) k q v i l u
+
+-- where the first pointer is refused
+module _ (c : tie.After-number) where
+  abbrev origin : tie.Start
+  origin = c .before .before .before .before .before
+
+  refusal : place origin (origin .args .p) ≡ Refused (c .number .given .0 .0)
+  refusal = sym (c .before .before .locate .ensures) ∙ c .number .given .1
 
 -- once both referents are known
 module _ (c : tie.After-z) where
@@ -58,7 +66,7 @@ module _ (c : tie.After-z) where
   found = sym (at-s .before .before .locate .ensures) ∙ at-s .s .given .1
 
   found-2 : place entry (entry .args .q) ≡ Inside (c .z .given .0 .0) (c .z .given .0 .1 .0)
-  found-2 = sym (c .before .before .locate2 .ensures) ∙ c .z .given .1
+  found-2 = sym (c .before .before .locate3 .ensures) ∙ c .z .given .1
 
   within : Within (entry .args .t) (entry .args .m) (at-s .s .given .0 .0) (at-s .s .given .0 .1 .0) (entry .args .p)
   unfolding argumentRules
@@ -67,6 +75,20 @@ module _ (c : tie.After-z) where
   within-2 : Within (entry .args .t) (entry .args .m) (c .z .given .0 .0) (c .z .given .0 .1 .0) (entry .args .q)
   unfolding argumentRules
   within-2 = spot _ _ _ (bytes entry) (entries entry) (entry .pre) _ found-2 (or-false-right (marked (entry .args .p)) _)
+
+-- where the second is refused
+module _ (c : tie.After-other) where
+  abbrev first : tie.After-s
+  first = c .before .before .before .before
+
+  abbrev start-2 : tie.Start
+  start-2 = first .before .before .before .before .before
+
+  found-first : place start-2 (start-2 .args .p) ≡ Inside (first .s .given .0 .0) (first .s .given .0 .1 .0)
+  found-first = sym (first .before .before .locate .ensures) ∙ first .s .given .1
+
+  refusal-2 : place start-2 (start-2 .args .q) ≡ Refused (c .other .given .0 .0)
+  refusal-2 = sym (c .before .before .locate3 .ensures) ∙ c .other .given .1
 
 -- once the count is
 module _ (c : tie.After-least2) where
@@ -98,48 +120,49 @@ module _ (c : tie.After-copy) where
 locate-requires : tie.Need-locate-requires
 locate-requires c κs = search needs
 
-enum-known-s : tie.Need-enum-known-s
-enum-known-s c = search needs
+enum-known-number : tie.Need-enum-known-number
+enum-known-number c = search needs
 
-enum-told : tie.Need-enum-told
-enum-told c = search needs
+locate-requires-2 : tie.Need-locate-requires-2
+locate-requires-2 c κs = search needs
 
-both-refused-requires : tie.Need-both-refused-requires
-both-refused-requires c κs = search needs
+number-of-requires : tie.Need-number-of-requires
+number-of-requires c κs = search needs
+
+greatest-requires : tie.Need-greatest-requires
+greatest-requires c κs = search needs
 
 refused-requires : tie.Need-refused-requires
 refused-requires c κs = search needs
 
 returns : tie.Need-returns
 returns c =
-    let both = c .before in
-    let told = both .before in
-    let e = told .before .before .before .before .before in
-    refusing e _ (c .refused .ensures) (both .both-refused .ensures) (e .args .p) _ (sym (told .before .before .locate .ensures) ∙ told .enum-told .given .1)
-    (omega arith)
+    let number = c .before .before in
+    let k = number .before .before .before in
+    let e = origin k in
+    let second = number .number-of .ensures ∙ ap numberIn (number .before .locate2 .ensures) in
+    refusing e _ (c .refused .ensures) (c .before .greatest .ensures ∙ ap₂ max (sym (ap numberIn (refusal k))) second) (e .args .p) _ (refusal k) (omega arith)
 
-locate-requires-2 : tie.Need-locate-requires-2
-locate-requires-2 c κs = search needs
+enum-known-s : tie.Need-enum-known-s
+enum-known-s c = search needs
 
-enum-known-z : tie.Need-enum-known-z
-enum-known-z c = search needs
+locate-requires-3 : tie.Need-locate-requires-3
+locate-requires-3 c κs = search needs
 
-enum-told-2 : tie.Need-enum-told-2
-enum-told-2 c = search needs
-
-both-refused-requires-2 : tie.Need-both-refused-requires-2
-both-refused-requires-2 c κs = search needs
+enum-known-other : tie.Need-enum-known-other
+enum-known-other c = search needs
 
 refused-requires-2 : tie.Need-refused-requires-2
 refused-requires-2 c κs = search needs
 
 returns-2 : tie.Need-returns-2
 returns-2 c =
-    let both = c .before in
-    let told = both .before in
-    let e = told .before .before .before .before .before .before .before .before .before in
-    refusing e _ (c .refused2 .ensures) (both .both-refused2 .ensures) (e .args .q) _ (sym (told .before .before .locate2 .ensures) ∙ told .enum-told2 .given .1)
-    (omega arith)
+    let k = c .before .before in
+    let e = start-2 k in
+    refusing e _ (c .refused2 .ensures) (omega (arith, ap numberIn (found-first k), ap numberIn (refusal-2 k))) (e .args .q) _ (refusal-2 k) (omega arith)
+
+enum-known-z : tie.Need-enum-known-z
+enum-known-z c = search needs
 
 left-in-requires : tie.Need-left-in-requires
 left-in-requires c κs = left-asks (within (c .before))
@@ -187,27 +210,6 @@ returns-3 c =
 pub copy-spec : {M : Type 1} → statement M
 copy-spec =
     tie.close
-    (tie.spec
-    locate-requires
-    enum-known-s
-    enum-told
-    both-refused-requires
-    refused-requires
-    returns
-    locate-requires-2
-    enum-known-z
-    enum-told-2
-    both-refused-requires-2
-    refused-requires-2
-    returns-2
-    left-in-requires
-    left-in-requires-2
-    least-requires
-    least-requires-2
-    offset-requires
-    offset-requires-2
-    cast-copy
-    copy-requires
-    accepted-requires
-    same-length
-    returns-3)
+    (tie.spec locate-requires enum-known-number locate-requires-2 number-of-requires greatest-requires refused-requires enum-known-s locate-requires-3
+    enum-known-other refused-requires-2 enum-known-z left-in-requires left-in-requires-2 least-requires least-requires-2 offset-requires
+    offset-requires-2 cast-copy copy-requires accepted-requires returns returns-2 same-length returns-3)

@@ -12,7 +12,8 @@ use Rattle.heap.specs.Judging.{located}
 use Rattle.heap.specs.Effects.{value, stored}
 use Rattle.heap.specs.declared.refusals.Located.the-variants.{Refused, Inside}
 use Rattle.heap.proofs.Accesses.{Within, left-asks, at-base, room, narrow, home-refused, spot, short-refused, long-accepted}
-use Rattle.heap.proofs.Judging.{answer, argument-clear}
+use Rattle.heap.proofs.Settling.{answer}
+use Rattle.heap.proofs.Judging.{argument-clear}
 use Rattle.heap.proofs.unchecked.read.Statement.{statement}
 use Rattle.heap.proofs.unchecked.read.Tie as tie
 
