@@ -34,13 +34,16 @@ extern "C" {
 #define TULIVOMBE_MARK UINT32_C(2147483648)
 #define TULIVOMBE_REGISTERS 16
 #define TULIVOMBE_SCREENFUL 64
+#define TULIVOMBE_LONGEST_FILE 8192 /* bytes of a take */
+#define TULIVOMBE_ANSWER_LENGTH 5   /* bytes of an answer: number, then value big-endian */
+#define TULIVOMBE_CALL_LENGTH 14    /* bytes of a call in a replay */
 
 /* What `number` can say. 1 to 13 and 26 speak of the input, 20 to 25 of the heap's state. */
 enum tulivombe_number {
     TULIVOMBE_OK = 0,
     TULIVOMBE_VERSION = 1,           /* file empty, or its first byte is not 01 */
     TULIVOMBE_SIZE = 2,              /* size byte missing, or not 5 to 16 */
-    TULIVOMBE_FILE_TOO_LONG = 3,     /* file longer than 8,192 bytes */
+    TULIVOMBE_FILE_TOO_LONG = 3,     /* file longer than TULIVOMBE_LONGEST_FILE bytes */
     TULIVOMBE_RECORD_LENGTH = 4,     /* record length 0, or more than the bytes left */
     TULIVOMBE_OPERATION = 5,         /* operation not 1 to 8 */
     TULIVOMBE_OPERATION_LENGTH = 6,  /* length wrong for the operation */
@@ -148,9 +151,9 @@ tulivombe_part tulivombe_show(const uint8_t *arena, size_t arena_len, const uint
                               uint32_t p);
 
 /* Runs a take, an upload from a computer, on a heap that it first makes fresh. The arena's length must be the
- * file's size and the answer slice hold 5 bytes a record: number, then value big-endian; its bytes past them
- * stay. The file is judged whole before any call, its records in their order, each for 4 to 7; a refused record
- * ends nothing. Refused: 1 to 9, and then nothing is changed. */
+ * file's size and the answer slice hold TULIVOMBE_ANSWER_LENGTH bytes a record: number, then value big-endian;
+ * its bytes past them stay. The file is judged whole before any call, its records in their order, each for 4 to
+ * 7; a refused record ends nothing. Refused: 1 to 9, and then nothing is changed. */
 tulivombe_ran tulivombe_run(const uint8_t *file, size_t file_len, uint8_t *arena, size_t arena_len,
                             uint8_t *table, size_t table_len, uint8_t *answers, size_t answers_len);
 
@@ -160,9 +163,9 @@ tulivombe_ran tulivombe_run(const uint8_t *file, size_t file_len, uint8_t *arena
 tulivombe_ran tulivombe_run_panel(const uint8_t *file, size_t file_len, uint8_t *arena, size_t arena_len,
                                   uint8_t *table, size_t table_len, uint8_t *answers, size_t answers_len);
 
-/* Makes a list of calls on a heap that it first makes fresh, and stores 5 bytes a call in `out`, as a run
- * does; its bytes past them stay. A call is 14 bytes: the operation as in a record, a byte x, and three numbers
- * a, b, c in 4 bytes each, big-endian:
+/* Makes a list of calls on a heap that it first makes fresh, and stores TULIVOMBE_ANSWER_LENGTH bytes a call in
+ * `out`, as a run does; its bytes past them stay. A call is TULIVOMBE_CALL_LENGTH bytes: the operation as in a
+ * record, a byte x, and three numbers a, b, c in 4 bytes each, big-endian:
  *     1 get a, 2 give a, 3 step a b, 4 read a x, 5 write a x b, 6 left a, 7 copy a b c, 8 fill a x c
  * with the arguments in the order of the calls above; what a call does not name is not looked at.
  * Refused: 4 (no whole number of calls), 5, 8, 9, and then nothing is changed. Returns the number. */
