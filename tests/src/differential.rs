@@ -2,9 +2,9 @@
 
 use crate::call::Call;
 use crate::lent::Lent;
-use crate::plain::takes::Record;
 use crate::plain_c::PlainC;
 use crate::random::{self, Rng};
+use crate::record::Record;
 use crate::subject::{Answer, Caller, Plain, Subject};
 
 /// How often each number was the answer.

@@ -12,6 +12,7 @@ pub mod literal;
 pub mod plain;
 pub mod plain_c;
 pub mod random;
+pub mod record;
 pub mod subject;
 pub mod twins;
 pub mod vectors;

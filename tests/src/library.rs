@@ -3,7 +3,7 @@
 //! No exported function has a `requires`, so each is safe on any slices: a `&[u8]` passes as its pointer and
 //! its length. Nothing checks these declarations against the header but `tests/c_interface.rs`.
 
-use crate::plain::takes::Record;
+use crate::record::Record;
 use crate::subject::{Answer, Part, Place, Ran, Subject};
 
 /// A record as C sees it.

@@ -2,7 +2,8 @@
 
 use crate::call::Call;
 use crate::plain::heap::{BASE, MARK};
-use crate::plain::takes::{self, Record};
+use crate::plain::takes;
+use crate::record::Record;
 
 /// How many times as many cases to make, by environment variable TULIVOMBE_TIMES.
 pub fn times() -> u32 {

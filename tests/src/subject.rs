@@ -1,6 +1,7 @@
 //! What the tests and benchmarks ask of an implementation of documents 01 and 02.
 
-use crate::plain::{heap, replay, runner, takes, takes::Record, Refusal};
+use crate::plain::{heap, replay, runner, takes, Refusal};
+use crate::record::Record;
 
 /// A refusal's number, 0 for none, and the value.
 #[derive(Clone, Copy, Debug, PartialEq, Eq)]

@@ -1,7 +1,8 @@
 //! Request 1 of document 02: both run calls side by side on takes of 63, 64, 65 and 70 records, good and bad.
 
 use tulivombe_tests::literal::Literal;
-use tulivombe_tests::plain::takes::{self, Record, LONGEST};
+use tulivombe_tests::plain::takes::{self, LONGEST};
+use tulivombe_tests::record::Record;
 use tulivombe_tests::subject::{Caller, Plain, Ran, Subject};
 
 const SIZE: usize = 256;

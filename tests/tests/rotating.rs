@@ -2,8 +2,9 @@
 
 use tulivombe_tests::literal::Literal;
 use tulivombe_tests::plain::heap::{BASE, MARK};
-use tulivombe_tests::plain::takes::{Record, VERSION};
+use tulivombe_tests::plain::takes::VERSION;
 use tulivombe_tests::random::append;
+use tulivombe_tests::record::Record;
 use tulivombe_tests::subject::{Answer, Caller, Plain, Subject};
 
 /// The count of a copy among blocks of `size` bytes, and all bytes after it, each taken from those before.

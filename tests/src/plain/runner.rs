@@ -1,8 +1,9 @@
 //! Running a take, and what `takerun` prints.
 
 use super::heap;
-use super::takes::{self, Record, REGISTERS};
+use super::takes::{self, REGISTERS};
 use super::Refusal::{self, *};
+use crate::record::Record;
 use std::fmt::Write;
 
 /// What an accepted run returns besides its buffers.

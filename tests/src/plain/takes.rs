@@ -1,6 +1,7 @@
 //! The file of a take: reader, writer and judging.
 
 use super::Refusal::{self, *};
+use crate::record::Record;
 
 /// The first byte of every file.
 pub const VERSION: u8 = 1;
@@ -8,30 +9,16 @@ pub const VERSION: u8 = 1;
 pub const LONGEST: usize = 8_192;
 pub const REGISTERS: usize = 16;
 
-/// One record; d, a and b are register numbers, i is two's complement.
-#[derive(Clone, Copy, Debug, PartialEq, Eq)]
-pub enum Record {
-    Get { d: u8, n: u32 },
-    Give { a: u8 },
-    Step { d: u8, a: u8, i: u32 },
-    Read { d: u8, a: u8, w: u8 },
-    Write { a: u8, w: u8, v: u32 },
-    Left { d: u8, a: u8 },
-    Copy { d: u8, a: u8, b: u8, n: u32 },
-    Fill { d: u8, a: u8, v: u8, n: u32 },
-}
-
-impl Record {
-    fn registers_good(self) -> bool {
-        let highest = match self {
-            Record::Get { d, .. } => d,
-            Record::Give { a } | Record::Write { a, .. } => a,
-            Record::Step { d, a, .. } | Record::Read { d, a, .. } => d.max(a),
-            Record::Left { d, a } | Record::Fill { d, a, .. } => d.max(a),
-            Record::Copy { d, a, b, .. } => d.max(a).max(b),
-        };
-        usize::from(highest) < REGISTERS
-    }
+/// Whether a record's registers are all among the sixteen.
+fn registers_good(record: Record) -> bool {
+    let highest = match record {
+        Record::Get { d, .. } => d,
+        Record::Give { a } | Record::Write { a, .. } => a,
+        Record::Step { d, a, .. } | Record::Read { d, a, .. } => d.max(a),
+        Record::Left { d, a } | Record::Fill { d, a, .. } => d.max(a),
+        Record::Copy { d, a, b, .. } => d.max(a).max(b),
+    };
+    usize::from(highest) < REGISTERS
 }
 
 /// The record at a place and the next place (refused 4 to 7).
@@ -56,7 +43,7 @@ pub fn read(file: &[u8], at: usize) -> Result<(Record, usize), Refusal> {
         [1..=8, ..] => return Err(OperationLength),
         _ => return Err(Operation),
     };
-    if record.registers_good() {
+    if registers_good(record) {
         Ok((record, at + 1 + length))
     } else {
         Err(Register)
@@ -94,7 +81,7 @@ pub fn write_head(out: &mut [u8], m: u32) -> Result<usize, Refusal> {
 
 /// Stores one record (refused 7, 9) and gives the count of its bytes.
 pub fn write(out: &mut [u8], record: Record) -> Result<usize, Refusal> {
-    if !record.registers_good() {
+    if !registers_good(record) {
         return Err(Register);
     }
     let mut bytes = [0; 9];

@@ -7,7 +7,7 @@ use crate::tables::Heap;
 use crate::{works, Ours};
 use tulivombe_tests::call::Call;
 use tulivombe_tests::plain::heap::BASE;
-use tulivombe_tests::plain::takes::Record;
+use tulivombe_tests::record::Record;
 use tulivombe_tests::subject::Plain;
 
 pub const HALF: u32 = 32_768;

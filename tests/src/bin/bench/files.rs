@@ -2,8 +2,9 @@
 
 use crate::tables::Heap;
 use tulivombe_tests::call::Call;
-use tulivombe_tests::plain::takes::{self, Record};
+use tulivombe_tests::plain::takes;
 use tulivombe_tests::random::{append, Rng};
+use tulivombe_tests::record::Record;
 use tulivombe_tests::subject::Plain;
 
 /// A file of `records` records at most, the first ones and then `repeated` in turn.

@@ -5,7 +5,7 @@ use crate::print::{line, title, LINE};
 use crate::race::race;
 use crate::tables::Heap;
 use crate::{works, Ours};
-use tulivombe_tests::plain::takes::Record;
+use tulivombe_tests::record::Record;
 use tulivombe_tests::subject::Plain;
 
 pub fn section() {

@@ -1,10 +1,13 @@
 //! Documents 01 and 02 word for word: each call reads the set of blocks from the table, feeds the ledger and writes
-//! the buffers back. It shares nothing with `plain` but the file's reader and writer.
+//! the buffers back; a file is read, judged and written by the operation table as it is printed. It shares no code with
+//! `plain`.
+
+mod takes;
 
 use crate::call::Call;
 use crate::ledger::{damaged, sought, Ledger, Pair};
-use crate::plain::takes::Record;
-use crate::subject::{Answer, Part, Place, Plain, Ran, Subject};
+use crate::record::Record;
+use crate::subject::{Answer, Part, Place, Ran, Subject};
 
 pub struct Literal;
 
@@ -116,9 +119,9 @@ impl Subject for Literal {
 
     fn run(file: &[u8], arena: &mut [u8], table: &mut [u8], answers: &mut [u8]) -> Ran {
         let refused = |number| Ran { number, count: 0, registers: [0; 16] };
-        let records = match crate::plain::takes::judge(file) {
-            Err(refusal) => return refused(refusal.number()),
-            Ok((_, records)) => records,
+        let records = match takes::judge(file) {
+            Err(number) => return refused(number),
+            Ok(records) => records,
         };
         if order(arena, table) != Some(u32::from(file[1])) {
             return refused(8);
@@ -130,7 +133,7 @@ impl Subject for Literal {
         let mut registers = [0; 16];
         let mut at = 2;
         for index in 0..records {
-            let (record, next) = Literal::read_record(file, at).expect("the file was judged");
+            let (record, next) = takes::read(file, at).expect("the file was judged");
             at = next;
             let (call, d) = call_of(record, &registers);
             let answer = made(call, arena, table);
@@ -144,8 +147,8 @@ impl Subject for Literal {
     }
 
     fn run_panel(file: &[u8], arena: &mut [u8], table: &mut [u8], answers: &mut [u8]) -> Ran {
-        match crate::plain::takes::judge(file) {
-            Ok((_, records)) if records > 64 => Ran { number: 26, count: 0, registers: [0; 16] },
+        match takes::judge(file) {
+            Ok(records) if records > 64 => Ran { number: 26, count: 0, registers: [0; 16] },
             _ => Literal::run(file, arena, table, answers),
         }
     }
@@ -171,15 +174,15 @@ impl Subject for Literal {
     }
 
     fn read_record(file: &[u8], at: usize) -> Place {
-        Plain::read_record(file, at)
+        takes::read(file, at)
     }
 
     fn write_head(out: &mut [u8], m: u32) -> Answer {
-        Plain::write_head(out, m)
+        takes::write_head(out, m)
     }
 
     fn write_record(out: &mut [u8], record: Record) -> Answer {
-        Plain::write_record(out, record)
+        takes::write_record(out, record)
     }
 }
 

@@ -1,0 +1,14 @@
+//! The records of a take as data, for every reader and writer of them.
+
+/// One record; d, a and b are register numbers, i is two's complement.
+#[derive(Clone, Copy, Debug, PartialEq, Eq)]
+pub enum Record {
+    Get { d: u8, n: u32 },
+    Give { a: u8 },
+    Step { d: u8, a: u8, i: u32 },
+    Read { d: u8, a: u8, w: u8 },
+    Write { a: u8, w: u8, v: u32 },
+    Left { d: u8, a: u8 },
+    Copy { d: u8, a: u8, b: u8, n: u32 },
+    Fill { d: u8, a: u8, v: u8, n: u32 },
+}
