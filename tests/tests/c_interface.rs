@@ -1,14 +1,10 @@
 //! The header from C and C++ with all warnings on, its types and the panel's numbers against the Rust declarations, and
 //! the C example.
 
-use std::path::{Path, PathBuf};
 use std::process::Command;
+use tulivombe_tests::vectors::root;
 
 const WARNINGS: [&str; 4] = ["-Wall", "-Wextra", "-Wpedantic", "-Werror"];
-
-fn root() -> PathBuf {
-    Path::new(env!("CARGO_MANIFEST_DIR")).parent().expect("tests/ stands in the repository").to_path_buf()
-}
 
 /// Runs a command and gives what it prints; it must succeed.
 fn run(command: &mut Command) -> String {
@@ -41,6 +37,7 @@ fn header_compiles_as_c_and_cpp() {
 mod library {
     use super::*;
     use std::mem::{offset_of, size_of};
+    use std::path::Path;
     use tulivombe_tests::library::{write_flat, FlatPlace, FlatRecord};
     use tulivombe_tests::plain::runner::SCREENFUL;
     use tulivombe_tests::plain::Refusal;

@@ -92,7 +92,7 @@ pub fn takerun(input: &[u8]) -> String {
 }
 
 /// The lines for an accepted file, from the arena's length and the answers of its records.
-pub fn printed(arena_len: usize, answers: &[u8]) -> String {
+fn printed(arena_len: usize, answers: &[u8]) -> String {
     let mut text = format!("heap {arena_len}\n");
     let records = answers.chunks_exact(5);
     let count = records.len();

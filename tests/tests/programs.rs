@@ -1,0 +1,140 @@
+//! `./run`, the program `takerun` under it, and the demonstration's text. What they must print comes from document 01,
+//! the stored vectors and both references.
+
+use std::path::Path;
+use std::process::{Command, Output};
+use tulivombe_tests::literal::Literal;
+use tulivombe_tests::plain::takes;
+use tulivombe_tests::record::Record;
+use tulivombe_tests::subject::Plain;
+use tulivombe_tests::vectors::{bytes, root, takerun, text};
+
+/// `./run` with arguments, started in another folder than the repository.
+fn run(arguments: &[&Path]) -> Output {
+    let mut command = Command::new(root().join("run"));
+    command.args(arguments).current_dir(std::env::temp_dir());
+    command.output().unwrap_or_else(|e| panic!("{command:?}: {e}"))
+}
+
+/// A refusal of `./run` itself: status 2, one line of complaint, and nothing that looks like a take's answers.
+fn complains(arguments: &[&Path], complaint: &str) {
+    let output = run(arguments);
+    assert_eq!(output.status.code(), Some(2), "{arguments:?}");
+    assert_eq!(String::from_utf8_lossy(&output.stderr), format!("run: {complaint}\n"));
+    assert_eq!(output.stdout, b"", "{arguments:?}");
+}
+
+#[test]
+fn run_needs_a_file_that_it_can_read() {
+    for name in ["no/such.take", "tests"] {
+        let path = root().join(name);
+        complains(&[&path], &format!("there is no readable file {}", path.display()));
+    }
+    let demonstration = root().join("examples/demo.take");
+    complains(&[&demonstration, &demonstration], "usage: ./run [FILE]");
+}
+
+/// A record of the demonstration's text: its bytes, its words and the line that it prints.
+struct Explained<'a> {
+    bytes: Vec<u8>,
+    words: Vec<&'a str>,
+    printed: &'a str,
+}
+
+/// The text's lines that start with a record's length byte.
+fn explained(text: &str) -> Vec<Explained<'_>> {
+    text.lines().filter(|line| line.starts_with('0')).map(record).collect()
+}
+
+/// A line's record by its columns, which two blanks or more part.
+fn record(line: &str) -> Explained<'_> {
+    let columns: Vec<&str> = line.split("  ").map(str::trim).filter(|column| !column.is_empty()).collect();
+    let [digits, words, printed, ..] = columns[..] else { panic!("too few columns: {line}") };
+    Explained { bytes: from_hexadecimal(digits), words: words.split(' ').collect(), printed }
+}
+
+fn from_hexadecimal(text: &str) -> Vec<u8> {
+    let digits: Vec<char> = text.chars().filter(|c| *c != ' ').collect();
+    let byte = |pair: &[char]| u8::from_str_radix(&pair.iter().collect::<String>(), 16).expect("two digits");
+    digits.chunks(2).map(byte).collect()
+}
+
+/// A record in words: its operation, registers and numbers.
+fn spelled(record: Record) -> String {
+    match record {
+        Record::Get { d, n } => format!("get r{d} {n}"),
+        Record::Give { a } => format!("give r{a}"),
+        Record::Step { d, a, i } => format!("step r{d} r{a} {}", i as i32),
+        Record::Read { d, a, w } => format!("read r{d} r{a} {w}"),
+        Record::Write { a, w, v } => format!("write r{a} {w} {v}"),
+        Record::Left { d, a } => format!("left r{d} r{a}"),
+        Record::Copy { d, a, b, n } => format!("copy r{d} r{a} r{b} {n}"),
+        Record::Fill { d, a, v, n } => format!("fill r{d} r{a} {v} {n}"),
+    }
+}
+
+/// What the text has between backquotes.
+fn quoted(text: &str) -> Vec<&str> {
+    text.split('`').skip(1).step_by(2).collect()
+}
+
+#[test]
+fn demonstrations_text_says_what_its_take_does() {
+    let (file, text) = (bytes(&root().join("examples/demo.take")), text(&root().join("examples/demo.txt")));
+    let records = explained(&text);
+    let written: Vec<u8> = records.iter().flat_map(|record| record.bytes.clone()).collect();
+    assert_eq!(file, [&[1, 8], &written[..]].concat());
+    assert!(text.contains("The file starts with 01 08:"));
+    for Explained { bytes, words, .. } in &records {
+        let (record, _) = takes::read(bytes, 0).expect("the text has whole records");
+        // numbers may be left out at the end
+        let said: Vec<&str> = words.iter().copied().filter(|word| *word != "..").collect();
+        let spelled = spelled(record);
+        assert!(spelled.split(' ').collect::<Vec<_>>().starts_with(&said), "{spelled}: {words:?}");
+    }
+    let [first, last] = quoted(&text)[..] else { panic!("the first and the last line are quoted") };
+    let lines: Vec<&str> =
+        [first].into_iter().chain(records.iter().map(|record| record.printed)).chain([last]).collect();
+    assert_eq!(takerun::<Plain>(&file).lines().collect::<Vec<_>>(), lines);
+    assert_eq!(takerun::<Literal>(&file).lines().collect::<Vec<_>>(), lines);
+}
+
+/// The proved program, which `./run` has built where it was not.
+#[cfg(feature = "library")]
+mod proved {
+    use super::*;
+    use std::fs::File;
+    use std::path::PathBuf;
+    use tulivombe_tests::vectors::stored;
+
+    /// Document 01, "A take": the worked input and what it prints.
+    const WORKED: &str = "01 06 06 01 00 00000014 06 01 01 00000010 07 03 02 00 00000020 04 04 03 02 01 \
+                          07 03 02 02 FFFFFFFF 06 01 04 00000020 02 02 00";
+    const PRINTED: &str = "heap 64\n0 0 65536\n1 0 65568\n2 0 2147549216\n3 13 0\n4 0 65567\n5 21 0\n6 0 0\nend 7\n";
+
+    fn prints(output: &Output, expected: &str, what: &str) {
+        assert!(output.status.success(), "{what}: {}", String::from_utf8_lossy(&output.stderr));
+        assert_eq!(String::from_utf8_lossy(&output.stdout), expected, "{what}");
+    }
+
+    fn kept(name: &str, content: &[u8]) -> PathBuf {
+        let path = Path::new(env!("CARGO_TARGET_TMPDIR")).join(name);
+        std::fs::write(&path, content).unwrap_or_else(|e| panic!("{}: {e}", path.display()));
+        path
+    }
+
+    /// One test, so that no two proofs of `takerun` run at once.
+    #[test]
+    fn run_and_takerun_print_what_the_paper_and_the_vectors_say() {
+        let demonstration = bytes(&root().join("examples/demo.take"));
+        prints(&run(&[]), &takerun::<Literal>(&demonstration), "./run");
+        prints(&run(&[&kept("worked.take", &from_hexadecimal(WORKED))]), PRINTED, "the worked take");
+        prints(&run(&[&kept("empty.take", b"")]), "refused 1\n", "an empty file");
+        for (take, printed) in stored().iter().flat_map(|text| text.takes()) {
+            let input = File::open(&take).unwrap_or_else(|e| panic!("{}: {e}", take.display()));
+            let mut program = Command::new(root().join("target/bin/takerun"));
+            let output = program.stdin(input).output().unwrap_or_else(|e| panic!("{program:?}: {e}"));
+            prints(&output, &printed, &take.display().to_string());
+        }
+    }
+}
