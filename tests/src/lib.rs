@@ -14,5 +14,6 @@ pub mod plain_c;
 pub mod random;
 pub mod record;
 pub mod subject;
+pub mod tidy;
 pub mod twins;
 pub mod vectors;
