@@ -1,0 +1,13 @@
+-- `takes::table::is_high` meets its contract: by the kind, told by the test.
+use borrow.Author.Tests.{ne-eqb}
+use Rattle.takes.proofs.table.is_high.Statement.{statement}
+use Rattle.takes.proofs.table.is_high.Tie as tie
+
+returns : tie.Need-returns
+returns c = rw (c .if1 .taken)
+
+returns-2 : tie.Need-returns-2
+returns-2 c = rw (ne-eqb (c .before .args .kind) 1 (c .if1 .left))
+
+pub is-high-spec : {M : Type 1} → statement M
+is-high-spec = tie.close (tie.spec returns returns-2)

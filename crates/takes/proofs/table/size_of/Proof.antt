@@ -1,0 +1,13 @@
+-- `takes::table::size_of` meets its contract: by the kind, told by the test.
+use borrow.Author.Tests.{ne-eqb}
+use Rattle.takes.proofs.table.size_of.Statement.{statement}
+use Rattle.takes.proofs.table.size_of.Tie as tie
+
+returns : tie.Need-returns
+returns c = rw (c .if1 .taken)
+
+returns-2 : tie.Need-returns-2
+returns-2 c = rw (ne-eqb (c .before .args .kind) 3 (c .if1 .left))
+
+pub size-of-spec : {M : Type 1} → statement M
+size-of-spec = tie.close (tie.spec returns returns-2)

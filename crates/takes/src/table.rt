@@ -1,0 +1,70 @@
+// The operation table, which the reader and the writer consult, and what the kind of a field says.
+use common::index;
+use heap::operations;
+use heap::registers;
+ghost use mathlib.Core.Path.{_≡_};
+ghost use Rattle.takes.specs.Table.{rowOf, sizeAt, highAt};
+
+// One past the last register.
+const REGISTERS: u32 = registers::COUNT as u32;
+
+// The kinds of a field that the code asks for by name: a register byte, and a big-endian number of four bytes. 2 is a plain byte.
+const REGISTER: u32 = 1;
+
+const WORD: u32 = 3;
+
+// One row more than there are operations.
+const ROWS: usize = operations::LAST as usize + 1;
+
+// The operation table, a row for each operation and one for 0, which is none. A row's last two hexadecimal digits are the length byte of its records;
+// those before are the kinds of its fields, the first field's digit the last. So a record is looked up once, and its kinds come one by one.
+const OPERATIONS: [u32; ROWS] = [
+    // no operation
+    0,
+    // get d n
+    0x31_06,
+    // give a
+    0x1_02,
+    // step d a i
+    0x311_07,
+    // read d a w
+    0x211_04,
+    // write a w v
+    0x321_07,
+    // left d a
+    0x11_03,
+    // copy d a b n
+    0x3111_08,
+    // fill d a v n
+    0x3211_08,
+];
+
+// The row of an operation, 0 where the table has no such operation.
+pub fn row_of(op: u8) -> u32
+    ensures { λ r. ⌜ r ≡ rowOf op ⌝ }
+{
+    let row = index(op);
+    if row < OPERATIONS.len() {
+        OPERATIONS[row]
+    } else {
+        0
+    }
+}
+
+// The bytes that a field takes.
+pub fn size_of(kind: u32) -> usize
+    ensures { λ r. ⌜ r ≡ sizeAt kind ⌝ }
+{
+    if kind == WORD { 4 } else { 1 }
+}
+
+// Whether v is a register past the last.
+pub fn is_high(kind: u32, v: u32) -> bool
+    ensures { λ r. ⌜ r ≡ highAt kind v ⌝ }
+{
+    if kind == REGISTER {
+        REGISTERS <= v
+    } else {
+        false
+    }
+}
