@@ -7,7 +7,7 @@ use lib.Dec.{eqb}
 use Rattle.heap.specs.Operations.{isOperation}
 use Rattle.heap.specs.declared.Answer.{Answer}
 use Rattle.takes.specs.Reading.{Given}
-use Rattle.takes.specs.Writing.{Stored, writeRecord}
+use Rattle.takes.specs.Writing.{WriteOutcome, writeRecord}
 use Rattle.takes.specs.declared.Record.{Record}
 use Rattle.takes.specs.declared.Record.the-variants.{Get, Give, Step, Read, Write, Left, Copy, Fill}
 use Rattle.cabi.specs.declared.FlatRecord.{FlatRecord}
@@ -46,16 +46,16 @@ recordAs op f =
     (cond (eqb op 6) (Left (f .d) (f .a))
     (cond (eqb op 7) (Copy (f .d) (f .a) (f .b) (f .word)) (Fill (f .d) (f .a) (f .byte) (f .word))))))))
 
-abbrev pub recordOf : FlatRecord → Record
-recordOf f = recordAs (f .operation) f
+abbrev pub recordFromFlat : FlatRecord → Record
+recordFromFlat f = recordAs (f .operation) f
 
 -- a writer's answer, its value the count of the bytes stored, and the slice that it leaves
-abbrev pub storedBy : Answer → List ℕ → Stored
-storedBy r out = record { number = r .number; count = r .value; slice = out }
+abbrev pub writeOutcomeBy : Answer → List ℕ → WriteOutcome
+writeOutcomeBy r out = record { number = r .number; count = r .value; slice = out }
 
 -- an operation that no record has is refused before all else
-abbrev pub unknown : List ℕ → Stored
+abbrev pub unknown : List ℕ → WriteOutcome
 unknown out = record { number = 5; count = 0; slice = out }
 
-unfoldable pub writeFlat : FlatRecord → List ℕ → Stored
-writeFlat f out = cond (isOperation (f .operation)) (writeRecord (recordOf f) out) (unknown out)
+unfoldable pub writeFlat : FlatRecord → List ℕ → WriteOutcome
+writeFlat f out = cond (isOperation (f .operation)) (writeRecord (recordFromFlat f) out) (unknown out)

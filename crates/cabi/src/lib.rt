@@ -17,7 +17,7 @@ ghost use Rattle.runner.specs.Carrying.{ranTo};
 ghost use Rattle.takes.specs.Files.{recordsOf};
 ghost use Rattle.takes.specs.Reading.{readAt};
 ghost use Rattle.takes.specs.Writing.{writeHead};
-ghost use Rattle.cabi.specs.Flat.{flatOf, flat, placed, recordOf, storedBy, writeFlat};
+ghost use Rattle.cabi.specs.Flat.{flatOf, flat, placed, recordFromFlat, writeOutcomeBy, writeFlat};
 ghost use Rattle.cabi.specs.Parts.{partOf};
 
 // A part of the lent arena, by its offset: an exported function returns no reference.
@@ -145,7 +145,8 @@ pub extern "C" fn tulivombe_run(
     table: &mut [u8],
     answers: &mut [u8],
 ) -> Ran
-    ensures { λ r. ⌜ ranTo r (now (arena .exit)) (now (table .exit)) (now (answers .exit)) ≡ runOf (now (file .entry)) (heapOf (now (arena .entry)) (now (table .entry))) (now (answers .entry)) ⌝ }
+    ensures { λ r. ⌜ ranTo r (now (arena .exit)) (now (table .exit)) (now (answers .exit))
+        ≡ runOf (now (file .entry)) (heapOf (now (arena .entry)) (now (table .entry))) (now (answers .entry)) ⌝ }
 {
     runner::run(file, arena, table, answers)
 }
@@ -176,7 +177,8 @@ pub extern "C" fn tulivombe_replay(
     calls: &[u8],
     out: &mut [u8],
 ) -> u32
-    ensures { λ r. ⌜ replayed r (now (arena .exit)) (now (table .exit)) (now (out .exit)) ≡ replayOf (now (calls .entry)) (heapOf (now (arena .entry)) (now (table .entry))) (now (out .entry)) ⌝ }
+    ensures { λ r. ⌜ replayed r (now (arena .exit)) (now (table .exit)) (now (out .exit))
+        ≡ replayOf (now (calls .entry)) (heapOf (now (arena .entry)) (now (table .entry))) (now (out .entry)) ⌝ }
 {
     history::replay(arena, table, calls, out)
 }
@@ -231,7 +233,7 @@ pub extern "C" fn tulivombe_read_record(file: &[u8], at: usize) -> Place
 
 #[no_mangle]
 pub extern "C" fn tulivombe_write_head(out: &mut [u8], m: u32) -> Answer
-    ensures { λ r. ⌜ storedBy r (now (out .exit)) ≡ writeHead m (now (out .entry)) ⌝ }
+    ensures { λ r. ⌜ writeOutcomeBy r (now (out .exit)) ≡ writeHead m (now (out .entry)) ⌝ }
 {
     let w = takes::write_head(out, m);
     Answer {
@@ -242,7 +244,7 @@ pub extern "C" fn tulivombe_write_head(out: &mut [u8], m: u32) -> Answer
 
 // The record of an operation of the table, a fill for any other number.
 fn structured(f: FlatRecord) -> Record
-    ensures { λ r. ⌜ r ≡ recordOf f ⌝ }
+    ensures { λ r. ⌜ r ≡ recordFromFlat f ⌝ }
 {
     let operation = f.operation;
     match operation {
@@ -260,7 +262,7 @@ fn structured(f: FlatRecord) -> Record
 // C can name an operation that no record has: that is number 5.
 #[no_mangle]
 pub extern "C" fn tulivombe_write_record(out: &mut [u8], item: FlatRecord) -> Answer
-    ensures { λ r. ⌜ storedBy r (now (out .exit)) ≡ writeFlat item (now (out .entry)) ⌝ }
+    ensures { λ r. ⌜ writeOutcomeBy r (now (out .exit)) ≡ writeFlat item (now (out .entry)) ⌝ }
 {
     let operation = item.operation;
     if operation < 1 {

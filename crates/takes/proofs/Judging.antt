@@ -6,14 +6,15 @@ use mathlib.Core.List.{List, [], _∷_}
 use native.Mathlib.Omega.{arith}
 use lib.Dec.{eqb, leb, ltb}
 use lib.ListN.{length, getD, take}
-use borrow.Author.Tests.{ltb-false, leb-true, eqb-true, eqb-false, ne-eqb, not-false}
-use Rattle.takes.specs.Reading.{refused, readAt}
+use borrow.Author.Tests.{ltb-false, leb-true, eqb-true, ne-eqb, not-false}
+use Rattle.takes.specs.Reading.{recordRefused, readAt}
 use Rattle.blocks.specs.Orders.{smallestOrder, largestOrder, isArenaOrder}
 use Rattle.takes.specs.Files.{Walk, ended, walkFrom, headLength, longest, sizeByte}
 use Rattle.takes.specs.Files.{headNumber, recordsNumber, fileNumber, recordsOf, judgement}
 use Rattle.takes.specs.Writing.{headBytes}
 use Rattle.takes.specs.declared.Record.{Record}
 use Rattle.common.proofs.Booleans.{and-left, and-right, or-false-left, or-false-right}
+use Rattle.common.proofs.Refusals.{clear-one, clear-number}
 use Rattle.takes.proofs.Readings.{refused-reading}
 use Rattle.takes.proofs.Walks.{Next, from-end, from-refused}
 
@@ -32,27 +33,21 @@ test-2 s = ltb (length s) headLength || not (isArenaOrder (sizeByte s))
 
 pub head-accepted : (s : List ℕ) → headNumber s ≡ 0 → Head s
 unfolding headNumber
-head-accepted s h = by-1 (test-1 s) refl h
-  where
-    by-3 : test-1 s ≡ false → test-2 s ≡ false → (b : Bool) → ltb longest (length s) ≡ b → _≡_ {A = ℕ} (cond b 3 0) 0 → Head s
-    by-3 p q true e h = absurd (omega arith)
-    by-3 p q false e h =
-        let m : isArenaOrder (sizeByte s) ≡ true = not-false (isArenaOrder (sizeByte s)) (or-false-right (ltb (length s) headLength) (not (isArenaOrder (sizeByte s))) q) in
-        record {
-          first-byte = eqb-true (getD s 0 0) 1 (not-false (eqb (getD s 0 0) 1) (or-false-right (eqb (length s) 0) (not (eqb (getD s 0 0) 1)) p));
-          both = ltb-false (length s) headLength (or-false-left (ltb (length s) headLength) (not (isArenaOrder (sizeByte s))) q);
-          low = leb-true smallestOrder (sizeByte s) (and-left (leb smallestOrder (sizeByte s)) (leb (sizeByte s) largestOrder) m);
-          high = leb-true (sizeByte s) largestOrder (and-right (leb smallestOrder (sizeByte s)) (leb (sizeByte s) largestOrder) m);
-          short = ltb-false longest (length s) e;
-        }
-
-    by-2 : test-1 s ≡ false → (b : Bool) → test-2 s ≡ b → _≡_ {A = ℕ} (cond b 2 (cond (ltb longest (length s)) 3 0)) 0 → Head s
-    by-2 p true e h = absurd (omega arith)
-    by-2 p false e h = by-3 p e (ltb longest (length s)) refl h
-
-    by-1 : (b : Bool) → test-1 s ≡ b → _≡_ {A = ℕ} (cond b 1 (cond (test-2 s) 2 (cond (ltb longest (length s)) 3 0))) 0 → Head s
-    by-1 true e h = absurd (omega arith)
-    by-1 false e h = by-2 e (test-2 s) refl h
+head-accepted s h =
+    let m : ℕ = sizeByte s in
+    let a = clear-one 1 (test-1 s) _ (λ z. omega arith) h in
+    let b = clear-one 2 (test-2 s) _ (λ z. omega arith) (a .1) in
+    let d = clear-one 3 (ltb longest (length s)) 0 (λ z. omega arith) (b .1) in
+    let first-fine : not (eqb (getD s 0 0) 1) ≡ false = or-false-right (eqb (length s) 0) _ (a .0) in
+    let size-fine : not (isArenaOrder m) ≡ false = or-false-right (ltb (length s) headLength) _ (b .0) in
+    let sized : isArenaOrder m ≡ true = not-false (isArenaOrder m) size-fine in
+    record {
+      first-byte = eqb-true (getD s 0 0) 1 (not-false (eqb (getD s 0 0) 1) first-fine);
+      both = ltb-false (length s) headLength (or-false-left (ltb (length s) headLength) _ (b .0));
+      low = leb-true smallestOrder m (and-left (leb smallestOrder m) (leb m largestOrder) sized);
+      high = leb-true m largestOrder (and-right (leb smallestOrder m) (leb m largestOrder) sized);
+      short = ltb-false longest (length s) (d .0);
+    }
 
 pub head-bytes : (s : List ℕ) → Head s → headBytes (sizeByte s) ≡ take headLength s
 head-bytes [] h = absurd (omega (arith, h .both))
@@ -66,12 +61,9 @@ module _ (s : List ℕ) where
 
   pub file-accepted : fileNumber s ≡ 0 → (headNumber s ≡ 0) × (recordsNumber s ≡ 0)
   unfolding fileNumber
-  file-accepted h = go (headNumber s) (recordsNumber s) (eqb (headNumber s) 0) refl (eqb (recordsNumber s) 0) refl h
-    where
-      go : (m n : ℕ) (a : Bool) → eqb m 0 ≡ a → (b : Bool) → eqb n 0 ≡ b → cond (not a) m (cond (not b) n 0) ≡ 0 → (m ≡ 0) × (n ≡ 0)
-      go m n true p true q h = (eqb-true m 0 p, eqb-true n 0 q)
-      go m n true p false q h = absurd (eqb-false n 0 q h)
-      go m n false p b q h = absurd (eqb-false m 0 p h)
+  file-accepted h =
+      let a = clear-number (headNumber s) _ h in
+      (a .0, clear-number (recordsNumber s) 0 (a .1) .0)
 
   -- where the loop stands: what is still to come gives what the whole file gives
   pub record Judging (at count : ℕ) : Type 0 where
@@ -101,7 +93,7 @@ module _ (s : List ℕ) where
     pub judging-stop : (at count n : ℕ) → Judging at count → at < length s → n ≡ readAt s at .number → (n ≡ 0 → ⊥)
         → record { number = n; size = 0; count = 0 } ≡ judgement s
     judging-stop at count n j h e d =
-        let r : readAt s at ≡ refused n = sym (refused-reading s at n e d) in
+        let r : readAt s at ≡ recordRefused n = sym (refused-reading s at n e d) in
         let z : recordsNumber s ≡ n = sym (j .number) ∙ ap (λ (w : Walk). w .number) (from-refused s at n h r) in
         let f : eqb n 0 ≡ false = ne-eqb n 0 d in
         rw (number-is n z, f, f)

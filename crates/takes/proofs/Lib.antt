@@ -1,4 +1,4 @@
--- What the proofs of several functions use. `pub` are those that a loop of another crate over the records of a file cites.
+-- What the proofs of several functions use. `pub` are those that another crate cites: a loop over the records of a file, and the worked take.
 mod Operations
 mod Numbers
 pub mod Fields
@@ -10,3 +10,4 @@ pub mod Walks
 pub mod Judging
 pub mod RoundTrips
 mod Rewriting
+pub mod Examples

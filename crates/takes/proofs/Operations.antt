@@ -1,16 +1,16 @@
--- The operation table: a rule for every operation from its rows, the code's table against it by one computed test, and what a row says.
+-- The operation table: what holds of each row holds of every operation, the code's table is computed from the rows, and what a row says.
 use Prim.Native.Nat.{ℕ, zero, suc, _+_, _*_, _/_, _%_, _≤_, _<_}
 use mathlib.Core.Path.{_≡_, refl, sym, _∙_, ap, subst}
 use mathlib.Core.Bool.{Bool, true, false, _||_, _&&_, cond, false≢true}
 use mathlib.Core.List.{List, [], _∷_}
 use native.Mathlib.Omega.{arith}
-use native.Mathlib.Nat.{add-zero, zero-add, add-suc, suc-add, le-of-suc-le-suc, not-suc-le-zero}
-use lib.Dec.{T, eqb, leb, ltb, eqb→eq}
+use native.Mathlib.Nat.{le-of-suc-le-suc, not-suc-le-zero}
+use lib.Dec.{eqb, leb, ltb}
 use lib.ListN.{length, getD}
 use borrow.Author.Tests.{eqb-true, ltb-true, leb-true}
 use Rattle.common.proofs.Booleans.{and-left, and-right}
 use Rattle.takes.specs.Operations.{Row, _has_, operations, knownIn, known, kindsOf, sizes, lengthOf}
-use Rattle.takes.specs.Table.{rows, columns, digits, rowOf}
+use Rattle.takes.specs.Inner.{rows, columns, digits, rowOf}
 
 abbrev pub AllRows : (ℕ → Type 0) → List Row → Type 0
 AllRows P [] = Unit {0}
@@ -29,14 +29,6 @@ pub every-operation : (P : ℕ → Type 0) → AllRows P operations → (op : �
 unfolding known
 every-operation P a op h = in-rows P operations a op h
 
-abbrev allRows : (ℕ → Bool) → List Row → Bool
-allRows f [] = true
-allRows f ((n has ks) ∷ rs) = f n && allRows f rs
-
-tested : (f : ℕ → Bool) (rs : List Row) → allRows f rs ≡ true → AllRows (λ op. f op ≡ true) rs
-tested f [] h = tt
-tested f ((n has ks) ∷ rs) h = (and-left (f n) (allRows f rs) h, tested f rs (and-right (f n) (allRows f rs) h))
-
 -- the table's bounds: an operation's row and columns, and its length byte
 pub record InTable (op : ℕ) : Type 0 where
   pub above : 0 < op
@@ -47,13 +39,10 @@ pub record InTable (op : ℕ) : Type 0 where
 abbrev within : ℕ → Bool
 within op = ltb 0 op && (ltb op rows && (leb (length (kindsOf op)) columns && ltb (sizes (kindsOf op)) 255))
 
-all-within : allRows within operations ≡ true
-unfolding kindsOf
-all-within = refl
-
 pub in-table : (op : ℕ) → known op ≡ true → InTable op
+unfolding kindsOf
 in-table op h =
-    let a : within op ≡ true = every-operation (λ op. within op ≡ true) (tested within operations all-within) op h in
+    let a : within op ≡ true = every-operation (λ op. within op ≡ true) (refl, (refl, (refl, (refl, (refl, (refl, (refl, (refl, tt)))))))) op h in
     let b = and-right (ltb 0 op) (ltb op rows && (leb (length (kindsOf op)) columns && ltb (sizes (kindsOf op)) 255)) a in
     let d = and-right (ltb op rows) (leb (length (kindsOf op)) columns && ltb (sizes (kindsOf op)) 255) b in
     record {
@@ -63,41 +52,23 @@ in-table op h =
       short = ltb-true (sizes (kindsOf op)) 255 (and-right (leb (length (kindsOf op)) columns) _ d);
     }
 
--- A test that passes at each entry of a list and its place.
-abbrev both : Bool → Bool → Bool
-both true b = b
-both false b = false
+-- the values of g at the first n numbers
+abbrev tabulated : (ℕ → ℕ) → ℕ → List ℕ
+tabulated g zero = []
+tabulated g (suc n) = g 0 ∷ tabulated (λ k. g (suc k)) n
 
-both-left : (a b : Bool) → T (both a b) → T a
-both-left true b t = tt
-both-left false b t = t
+tabulated-at : (g : ℕ → ℕ) (n k : ℕ) → k < n → getD (tabulated g n) k 0 ≡ g k
+tabulated-at g zero k h = absurd (not-suc-le-zero h)
+tabulated-at g (suc n) zero h = refl
+tabulated-at g (suc n) (suc k) h = tabulated-at (λ k. g (suc k)) n k (le-of-suc-le-suc h)
 
-both-right : (a b : Bool) → T (both a b) → T b
-both-right true b t = t
-both-right false b t = absurd t
-
-abbrev every : (ℕ → ℕ → Bool) → ℕ → List ℕ → Bool
-every f i [] = true
-every f i (x ∷ xs) = both (f i x) (every f (suc i) xs)
-
-from : (f : ℕ → ℕ → Bool) (xs : List ℕ) (i : ℕ) → T (every f i xs) → (k : ℕ) → k < length xs → T (f (i + k) (getD xs k 0))
-from f [] i t k h = absurd (not-suc-le-zero h)
-from f (x ∷ xs) i t zero h = subst (λ (m : ℕ). T (f m x)) (sym (add-zero i)) (both-left (f i x) (every f (suc i) xs) t)
-from f (x ∷ xs) i t (suc k) h =
-    subst (λ (m : ℕ). T (f m (getD xs k 0))) (suc-add i k ∙ sym (add-suc i k))
-    (from f xs (suc i) (both-right (f i x) (every f (suc i) xs) t) k (le-of-suc-le-suc h))
-
--- where each entry equals g of its place by computation, so it does at any place
-entry : (g : ℕ → ℕ) (xs : List ℕ) → T (every (λ k x. eqb x (g k)) 0 xs) → (k : ℕ) → k < length xs → getD xs k 0 ≡ g k
-entry g xs t k h = eqb→eq (getD xs k 0) (g k) (subst (λ (m : ℕ). T (eqb (getD xs k 0) (g m))) (zero-add k) (from (λ k x. eqb x (g k)) xs 0 t k h))
-
--- the code's table
+-- the code's table, which computes to the rows of the numbers below 9
 abbrev pub table : List ℕ
 table = 0 ∷ 0x31_06 ∷ 0x1_02 ∷ 0x311_07 ∷ 0x211_04 ∷ 0x321_07 ∷ 0x11_03 ∷ 0x3111_08 ∷ 0x3211_08 ∷ []
 
 pub rows-right : (op : ℕ) → op < rows → getD table op 0 ≡ rowOf op
 unfolding rowOf known kindsOf
-rows-right = entry rowOf table tt
+rows-right op h = tabulated-at rowOf rows op h
 
 pub rows-past : (op : ℕ) → rows ≤ op → 0 ≡ rowOf op
 unfolding rowOf

@@ -13,8 +13,9 @@ use lib.Seq.{getD-drop, drop-drop}
 use borrow.Author.Tests.{lt-ltb, le-ltb, ltb-false, eq-eqb, ne-eqb, eqb-true, eqb-false}
 use Rattle.takes.specs.Operations.{known, kindsOf, sizes, lengthOf}
 use Rattle.takes.specs.Records.{recordOf}
-use Rattle.takes.specs.Reading.{lengthByte, operationByte, fieldValues, values, highRegister, Given, accepted, refused, readRules, readBytes, readAt}
-use Rattle.takes.specs.Table.{digits, rowOf}
+use Rattle.takes.specs.Reading.{lengthByte, operationByte, fieldValues, values, highRegister}
+use Rattle.takes.specs.Reading.{Given, recordFound, recordRefused, readRules, readBytes, readAt}
+use Rattle.takes.specs.Inner.{digits, rowOf}
 use Rattle.takes.specs.declared.Record.{Record}
 use Rattle.takes.proofs.Operations.{row-none, row-known, row-length, row-kinds}
 use Rattle.common.proofs.Booleans.{or-false-left, or-false-right}
@@ -34,44 +35,47 @@ theRecord bs = recordOf (operationByte bs) (fieldValues bs)
 abbrev pub span : List ℕ → ℕ
 span bs = 1 + lengthByte bs
 
+-- a record is whole, or it is refused with a number that is not 0
+abbrev pub ReadCases : List ℕ → ℕ → Type 0
+ReadCases bs at = Whole bs ⊎ ((n : ℕ) × (readBytes bs at ≡ recordRefused (suc n)))
+
 module _ (bs : List ℕ) (at : ℕ) where
   abbrev short : Bool
   short = eqb (lengthByte bs) 0 || ltb (length bs - 1) (lengthByte bs)
 
-  read-4 : short ≡ true → readBytes bs at ≡ refused 4
+  read-4 : short ≡ true → readBytes bs at ≡ recordRefused 4
   unfolding readBytes readRules
   read-4 h = rw h
 
-  read-5 : short ≡ false → known (operationByte bs) ≡ false → readBytes bs at ≡ refused 5
+  read-5 : short ≡ false → known (operationByte bs) ≡ false → readBytes bs at ≡ recordRefused 5
   unfolding readBytes readRules
   read-5 h k = rw (h, k)
 
-  read-6 : short ≡ false → known (operationByte bs) ≡ true → eqb (lengthByte bs) (lengthOf (operationByte bs)) ≡ false → readBytes bs at ≡ refused 6
+  read-6 : short ≡ false → known (operationByte bs) ≡ true → eqb (lengthByte bs) (lengthOf (operationByte bs)) ≡ false → readBytes bs at ≡ recordRefused 6
   unfolding readBytes readRules
   read-6 h k l = rw (h, k, l)
 
   read-7 : short ≡ false → known (operationByte bs) ≡ true → eqb (lengthByte bs) (lengthOf (operationByte bs)) ≡ true
-      → highRegister (kindsOf (operationByte bs)) (fieldValues bs) ≡ true → readBytes bs at ≡ refused 7
+      → highRegister (kindsOf (operationByte bs)) (fieldValues bs) ≡ true → readBytes bs at ≡ recordRefused 7
   unfolding readBytes readRules
   read-7 h k l v = rw (h, k, l, v)
 
   read-0 : short ≡ false → known (operationByte bs) ≡ true → eqb (lengthByte bs) (lengthOf (operationByte bs)) ≡ true
-      → highRegister (kindsOf (operationByte bs)) (fieldValues bs) ≡ false → readBytes bs at ≡ accepted (theRecord bs) (at + 1 + lengthByte bs)
+      → highRegister (kindsOf (operationByte bs)) (fieldValues bs) ≡ false → readBytes bs at ≡ recordFound (theRecord bs) (at + 1 + lengthByte bs)
   unfolding readBytes readRules
   read-0 h k l v = rw (h, k, l, v)
 
   not-short : (lengthByte bs ≡ 0 → ⊥) → lengthByte bs ≤ length bs - 1 → short ≡ false
   not-short h k = rw (ne-eqb (lengthByte bs) 0 h, le-ltb (length bs - 1) (lengthByte bs) k)
 
-  pub read-whole : Whole bs → readBytes bs at ≡ accepted (theRecord bs) (at + 1 + lengthByte bs)
+  pub read-whole : Whole bs → readBytes bs at ≡ recordFound (theRecord bs) (at + 1 + lengthByte bs)
   read-whole w = read-0 (not-short (w .nonzero) (w .enough)) (w .listed) (eq-eqb (lengthByte bs) (lengthOf (operationByte bs)) (w .exact)) (w .low)
 
-  -- a record is whole, or it is refused with a number that is not 0
-  pub read-cases : Whole bs ⊎ ((n : ℕ) × (readBytes bs at ≡ refused (suc n)))
+  pub read-cases : ReadCases bs at
   read-cases = by-4 short refl
     where
       by-7 : short ≡ false → known (operationByte bs) ≡ true → eqb (lengthByte bs) (lengthOf (operationByte bs)) ≡ true
-          → (b : Bool) → highRegister (kindsOf (operationByte bs)) (fieldValues bs) ≡ b → Whole bs ⊎ ((n : ℕ) × (readBytes bs at ≡ refused (suc n)))
+          → (b : Bool) → highRegister (kindsOf (operationByte bs)) (fieldValues bs) ≡ b → ReadCases bs at
       by-7 h k l true e = inr (6, read-7 h k l e)
       by-7 h k l false e =
           inl
@@ -84,15 +88,15 @@ module _ (bs : List ℕ) (at : ℕ) where
           })
 
       by-6 : short ≡ false → known (operationByte bs) ≡ true → (b : Bool) → eqb (lengthByte bs) (lengthOf (operationByte bs)) ≡ b
-          → Whole bs ⊎ ((n : ℕ) × (readBytes bs at ≡ refused (suc n)))
+          → ReadCases bs at
       by-6 h k true e = by-7 h k e (highRegister (kindsOf (operationByte bs)) (fieldValues bs)) refl
       by-6 h k false e = inr (5, read-6 h k e)
 
-      by-5 : short ≡ false → (b : Bool) → known (operationByte bs) ≡ b → Whole bs ⊎ ((n : ℕ) × (readBytes bs at ≡ refused (suc n)))
+      by-5 : short ≡ false → (b : Bool) → known (operationByte bs) ≡ b → ReadCases bs at
       by-5 h true e = by-6 h e (eqb (lengthByte bs) (lengthOf (operationByte bs))) refl
       by-5 h false e = inr (4, read-5 h e)
 
-      by-4 : (b : Bool) → short ≡ b → Whole bs ⊎ ((n : ℕ) × (readBytes bs at ≡ refused (suc n)))
+      by-4 : (b : Bool) → short ≡ b → ReadCases bs at
       by-4 true e = inr (3, read-4 e)
       by-4 false e = by-5 e (known (operationByte bs)) refl
 
@@ -104,13 +108,13 @@ module _ (s : List ℕ) (at : ℕ) where
   operation-at : operationByte (drop at s) ≡ getD s (at + 1) 0
   operation-at = getD-drop at s 1 0
 
-  pub past-end : length s ≤ at → refused 4 ≡ readAt s at
+  pub past-end : length s ≤ at → recordRefused 4 ≡ readAt s at
   past-end h = sym (read-4 (drop at s) at (rw (drop-of-length-le s h)))
 
-  pub zero-length : getD s at 0 ≡ 0 → refused 4 ≡ readAt s at
+  pub zero-length : getD s at 0 ≡ 0 → recordRefused 4 ≡ readAt s at
   zero-length h = sym (read-4 (drop at s) at (rw (length-at, h)))
 
-  pub too-few : (n : ℕ) → (getD s at 0 ≡ 0 → ⊥) → n ≡ getD s at 0 → length s - (at + 1) < n → refused 4 ≡ readAt s at
+  pub too-few : (n : ℕ) → (getD s at 0 ≡ 0 → ⊥) → n ≡ getD s at 0 → length s - (at + 1) < n → recordRefused 4 ≡ readAt s at
   too-few n nonzero e h =
       let l : length (drop at s) - 1 < getD s at 0 = omega (arith, length-drop at s) in
       sym (read-4 (drop at s) at (rw (length-at, ne-eqb (getD s at 0) 0 nonzero, lt-ltb (length (drop at s) - 1) (getD s at 0) l)))
@@ -132,7 +136,7 @@ module _ {s : List ℕ} {at n row : ℕ} (k : Counted s at n row) where
   fine : short (drop at s) at ≡ false
   fine = not-short (drop at s) at (rw length-at (k .nonzero)) (rw length-at (omega (arith, length-drop at s, k .enough, k .length-is)))
 
-  pub unlisted : row ≡ 0 → refused 5 ≡ readAt s at
+  pub unlisted : row ≡ 0 → recordRefused 5 ≡ readAt s at
   unlisted h = sym (read-5 (drop at s) at fine (row-none op row row-here h))
 
   module _ (listed : row ≡ 0 → ⊥) where
@@ -145,7 +149,7 @@ module _ {s : List ℕ} {at n row : ℕ} (k : Counted s at n row) where
     pub kinds-at : row / 256 ≡ digits (kindsOf op)
     kinds-at = row-kinds op row row-here known-at
 
-    pub wrong-length : (getD s at 0 ≡ row % 256 → ⊥) → refused 6 ≡ readAt s at
+    pub wrong-length : (getD s at 0 ≡ row % 256 → ⊥) → recordRefused 6 ≡ readAt s at
     wrong-length h = sym (read-6 (drop at s) at fine known-at (rw (length-at, ← right-at) (ne-eqb (getD s at 0) (row % 256) h)))
 
     module _ (same : getD s at 0 ≡ row % 256) where
@@ -155,36 +159,36 @@ module _ {s : List ℕ} {at n row : ℕ} (k : Counted s at n row) where
       exact-at : eqb (lengthByte (drop at s)) (lengthOf op) ≡ true
       exact-at = eq-eqb (lengthByte (drop at s)) (lengthOf op) (length-at s at ∙ (same ∙ right-at))
 
-      pub high-at : true ≡ highRegister (kindsOf op) (fieldValues (drop at s)) → refused 7 ≡ readAt s at
+      pub high-at : true ≡ highRegister (kindsOf op) (fieldValues (drop at s)) → recordRefused 7 ≡ readAt s at
       high-at h = sym (read-7 (drop at s) at fine known-at exact-at (sym h))
 
       pub good-at : false ≡ highRegister (kindsOf op) (fieldValues (drop at s)) → 0 ≡ readAt s at .number
       good-at h = sym (ap (λ (g : Given). g .number) (read-0 (drop at s) at fine known-at exact-at (sym h)))
 
 -- A reading by its number: a refused one has a number alone, and a good one has a whole record.
-pub the-number : {n : ℕ} {g : Given} → refused n ≡ g → n ≡ g .number
+pub the-number : {n : ℕ} {g : Given} → recordRefused n ≡ g → n ≡ g .number
 the-number e = ap (λ (g : Given). g .number) e
 
 module _ (s : List ℕ) (at : ℕ) where
-  pub refused-reading : (n : ℕ) → n ≡ readAt s at .number → (n ≡ 0 → ⊥) → refused n ≡ readAt s at
+  pub refused-reading : (n : ℕ) → n ≡ readAt s at .number → (n ≡ 0 → ⊥) → recordRefused n ≡ readAt s at
   refused-reading n e z = go (read-cases (drop at s) at)
     where
-      go : Whole (drop at s) ⊎ ((k : ℕ) × (readAt s at ≡ refused (suc k))) → refused n ≡ readAt s at
+      go : ReadCases (drop at s) at → recordRefused n ≡ readAt s at
       go (inl w) = absurd (z (e ∙ ap (λ (g : Given). g .number) (read-whole (drop at s) at w)))
-      go (inr (k, f)) = ap refused (e ∙ ap (λ (g : Given). g .number) f) ∙ sym f
+      go (inr (k, f)) = ap recordRefused (e ∙ ap (λ (g : Given). g .number) f) ∙ sym f
 
   module _ (good : readAt s at .number ≡ 0) where
     pub good-whole : Whole (drop at s)
     good-whole = go (read-cases (drop at s) at)
       where
-        go : Whole (drop at s) ⊎ ((k : ℕ) × (readAt s at ≡ refused (suc k))) → Whole (drop at s)
+        go : ReadCases (drop at s) at → Whole (drop at s)
         go (inl w) = w
         go (inr (k, f)) = absurd (omega (arith, sym good ∙ ap (λ (g : Given). g .number) f))
 
-    good-reading : readAt s at ≡ accepted (theRecord (drop at s)) (at + 1 + lengthByte (drop at s))
+    good-reading : readAt s at ≡ recordFound (theRecord (drop at s)) (at + 1 + lengthByte (drop at s))
     good-reading = read-whole (drop at s) at good-whole
 
-    pub good-found : (r : Record) (next : ℕ) → some r ≡ readAt s at .found → next ≡ readAt s at .next → accepted r next ≡ readAt s at
+    pub good-found : (r : Record) (next : ℕ) → some r ≡ readAt s at .found → next ≡ readAt s at .next → recordFound r next ≡ readAt s at
     good-found r next p q = rw (p, q, good-reading)
 
     -- what the inner reader takes from the file

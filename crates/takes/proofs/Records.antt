@@ -12,9 +12,9 @@ use borrow.Author.Tests.{lt-ltb, le-ltb}
 use Rattle.takes.specs.Operations.{Kind, known, kindsOf, sizes, lengthOf}
 use Rattle.takes.specs.Records.{operation, fields, recordOf}
 use Rattle.takes.specs.Reading.{values, highRegister}
-use Rattle.takes.specs.Places.{byteAt, wordAt, getAt, giveAt, stepAt, readFieldsAt, writeAt, leftAt, copyAt, fillAt}
+use Rattle.takes.specs.Inner.{byteAt, wordAt, getAt, giveAt, stepAt, readFieldsAt, writeAt, leftAt, copyAt, fillAt}
 use Rattle.takes.specs.Writing.{valueBytes, recordBytes, writeRecord}
-use Rattle.takes.specs.Table.{columns, padded}
+use Rattle.takes.specs.Inner.{columns, padded}
 use Rattle.takes.specs.declared.Record.{Record}
 use Rattle.takes.specs.declared.Record.the-variants.{Get, Give, Step, Read, Write, Left, Copy, Fill}
 use Rattle.takes.proofs.Fields.{start, sizeOf, byte-is, word-is}
@@ -65,13 +65,6 @@ module _ (s : List ℕ) (at : ℕ) where
   pub fill-is : fillAt s at ≡ made 8
   unfolding recordOf kindsOf
   fill-is = rw (byte-here (kindsOf 8) refl, byte-from 1 (kindsOf 8) refl refl, byte-from 2 (kindsOf 8) refl refl, word-from 3 (kindsOf 8) refl refl)
-
--- An arm of the reader, for the operation n: what it needs of the file, and the record that it gives.
-pub arm-fits : (s : List ℕ) (at op n : ℕ) → op ≡ n → at + sizes (kindsOf op) ≤ length s → at + sizes (kindsOf n) ≤ length s
-arm-fits s at op n e h = rw e at h
-
-pub arm-is : (s : List ℕ) (at op n : ℕ) (r q : Record) → op ≡ n → r ≡ q → q ≡ made s at n → r ≡ made s at op
-arm-is s at op n r q e p h = p ∙ (h ∙ ap (made s at) (sym e))
 
 pub record Sound (r : Record) : Type 0 where
   pub in-table : known (operation r) ≡ true

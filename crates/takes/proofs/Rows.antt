@@ -13,7 +13,7 @@ use Rattle.common.proofs.Bytes.{over-none, over-append, length-bytesOf}
 use Rattle.takes.specs.Operations.{Kind, register, byte, word, size, sizes}
 use Rattle.takes.specs.Reading.{values, isHigh, highRegister}
 use Rattle.takes.specs.Writing.{valueBytes}
-use Rattle.takes.specs.Table.{code, digits, sizeAt, highAt}
+use Rattle.takes.specs.Inner.{code, digits, sizeAt, highAt}
 use Rattle.takes.proofs.Numbers.{number-drop}
 use Rattle.takes.proofs.Fields.{number-one}
 

@@ -2,17 +2,17 @@
 use Prim.Native.Nat.{ℕ, zero, suc, _+_, _-_, _*_, _≤_, _<_}
 use mathlib.Core.Path.{_≡_, refl, sym, _∙_, ap}
 use mathlib.Core.Bool.{Bool, true, false}
-use mathlib.Core.Logic.{_⊎_, inl, inr}
+use mathlib.Core.Logic.{inl, inr}
 use mathlib.Core.List.{List}
 use mathlib.Core.Option.{some}
 use native.Mathlib.Omega.{arith}
 use lib.Dec.{ltb}
 use lib.ListN.{length, drop, length-drop}
 use borrow.Author.Tests.{lt-ltb, le-ltb, ltb-true, ltb-false}
-use Rattle.takes.specs.Reading.{lengthByte, Given, refused, readAt}
+use Rattle.takes.specs.Reading.{lengthByte, Given, recordRefused, readAt}
 use Rattle.takes.specs.Files.{Walk, ended, before, walk, walkFrom}
 use Rattle.takes.specs.declared.Record.{Record}
-use Rattle.takes.proofs.Readings.{Whole, theRecord, read-whole, read-cases, good-whole}
+use Rattle.takes.proofs.Readings.{ReadCases, Whole, theRecord, read-whole, read-cases, good-whole}
 
 abbrev pub nextPlace : List ℕ → ℕ → ℕ
 nextPlace s at = at + 1 + lengthByte (drop at s)
@@ -32,7 +32,7 @@ module _ (s : List ℕ) where
   unfolding walk
   walk-on f at w = rw (lt-ltb at (length s) (whole-inside s at w .0), read-whole (drop at s) at w)
 
-  walk-stop : (f at n : ℕ) → at < length s → readAt s at ≡ refused n → walk (suc f) s at ≡ ended n
+  walk-stop : (f at n : ℕ) → at < length s → readAt s at ≡ recordRefused n → walk (suc f) s at ≡ ended n
   unfolding walk
   walk-stop f at n h e = rw (lt-ltb at (length s) h, e)
 
@@ -42,7 +42,7 @@ module _ (s : List ℕ) where
   walk-enough (suc f) (suc g) at h k = go (ltb at (length s)) refl (walk-enough f g)
     where
       inside : at < length s → ((at : ℕ) → length s - at ≤ f → length s - at ≤ g → walk f s at ≡ walk g s at)
-          → Whole (drop at s) ⊎ ((n : ℕ) × (readAt s at ≡ refused (suc n))) → walk (suc f) s at ≡ walk (suc g) s at
+          → ReadCases (drop at s) at → walk (suc f) s at ≡ walk (suc g) s at
       inside l next (inl w) =
           let i = whole-inside s at w in
           walk-on f at w
@@ -64,7 +64,7 @@ module _ (s : List ℕ) where
   walk-spans zero at h = omega arith
   walk-spans (suc f) at h = go (ltb at (length s)) refl (walk-spans f)
     where
-      inside : at < length s → Spans f → Whole (drop at s) ⊎ ((n : ℕ) × (readAt s at ≡ refused (suc n)))
+      inside : at < length s → Spans f → ReadCases (drop at s) at
           → at + 2 * length (walk (suc f) s at .records) ≤ length s
       inside l next (inl w) =
           let i = whole-inside s at w in
@@ -91,7 +91,7 @@ module _ (s : List ℕ) where
       ∙ (walk-on (length s - 1) at w
       ∙ ap (before (theRecord (drop at s))) (walk-enough (length s - 1) (length s) (nextPlace s at) (omega (arith, i .0, i .1, i .2)) (omega arith)))
 
-  pub from-refused : (at n : ℕ) → at < length s → readAt s at ≡ refused n → walkFrom s at ≡ ended n
+  pub from-refused : (at n : ℕ) → at < length s → readAt s at ≡ recordRefused n → walkFrom s at ≡ ended n
   from-refused at n h e = ap (λ (k : ℕ). walk k s at) (one-more at h) ∙ walk-stop (length s - 1) at n h e
 
 -- What the reader's answer says of the record at a place, where the records from there on are accepted.
@@ -123,7 +123,7 @@ module _ (s : List ℕ) (at : ℕ) where
     pub accepted-here : readAt s at .number ≡ 0
     accepted-here = go (read-cases (drop at s) at)
       where
-        go : Whole (drop at s) ⊎ ((n : ℕ) × (readAt s at ≡ refused (suc n))) → readAt s at .number ≡ 0
+        go : ReadCases (drop at s) at → readAt s at .number ≡ 0
         go (inl w) = ap (λ (g : Given). g .number) (read-whole (drop at s) at w)
         go (inr (n, e)) = absurd (omega (arith, sym (ap (λ (w : Walk). w .number) (from-refused s at (suc n) here e)) ∙ none-refused))
 

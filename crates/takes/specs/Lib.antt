@@ -1,9 +1,7 @@
 pub mod Operations
 pub mod Records
 pub mod Reading
-pub mod Places
 pub mod Files
 pub mod Writing
 pub mod RoundTrips
-pub mod Table
-pub mod Examples
+pub mod Inner

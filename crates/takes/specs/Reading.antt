@@ -57,26 +57,26 @@ pub record Given : Type 0 where
   pub found : Option Record
   pub next : ℕ
 
-abbrev pub accepted : Record → ℕ → Given
-accepted r next = record { number = 0; found = some r; next = next }
+abbrev pub recordFound : Record → ℕ → Given
+recordFound r next = record { number = 0; found = some r; next = next }
 
-abbrev pub refused : ℕ → Given
-refused n = record { number = n; found = none; next = 0 }
+abbrev pub recordRefused : ℕ → Given
+recordRefused n = record { number = n; found = none; next = 0 }
 
 -- the cases of the code's answer, in those terms
 abbrev pub given : Reading → Given
-given (Found r next) = accepted r next
-given (Refused n) = refused n
+given (Found r next) = recordFound r next
+given (Refused n) = recordRefused n
 
 -- by its number a record is given or refused
-abbrev pub judged : ℕ → Given → Given
-judged n g = cond (eqb n 0) g (refused n)
+abbrev pub unlessRefused : ℕ → Given → Given
+unlessRefused n g = cond (eqb n 0) g (recordRefused n)
 
 unfoldable pub readBytes : List ℕ → ℕ → Given
 unfolding bigEndian
 readBytes bs at =
-    judged (first (readRules bs))
-    (accepted (recordOf (operationByte bs) (fieldValues bs)) (at + 1 + lengthByte bs))
+    unlessRefused (first (readRules bs))
+    (recordFound (recordOf (operationByte bs) (fieldValues bs)) (at + 1 + lengthByte bs))
 
 abbrev pub readAt : List ℕ → ℕ → Given
 readAt file at = readBytes (drop at file) at

@@ -36,28 +36,28 @@ abbrev pub fileOf : ℕ → List Record → List ℕ
 fileOf m rs = headBytes m ++ recordsBytes rs
 
 -- What a writer gives: a number, the count of the bytes stored, and the lent slice as it leaves it.
-pub record Stored : Type 0 where
+pub record WriteOutcome : Type 0 where
   pub number : ℕ
   pub count : ℕ
   pub slice : List ℕ
 
-abbrev pub stored : Written → List ℕ → Stored
-stored w slice = record { number = w .number; count = w .count; slice = slice }
+abbrev pub writeOutcome : Written → List ℕ → WriteOutcome
+writeOutcome w slice = record { number = w .number; count = w .count; slice = slice }
 
-abbrev pub judgedStore : ℕ → List ℕ → List ℕ → Stored
+abbrev pub judgedStore : ℕ → List ℕ → List ℕ → WriteOutcome
 judgedStore n bytes out =
     cond (eqb n 0)
     (record { number = 0; count = length bytes; slice = bytes ++ drop (length bytes) out })
     (record { number = n; count = 0; slice = out })
 
 -- the bytes go to the start of the slice, or, refused, nothing is stored
-abbrev pub store : List Refusal → List ℕ → List ℕ → Stored
+abbrev pub store : List Refusal → List ℕ → List ℕ → WriteOutcome
 store rules bytes out = judgedStore (first rules) bytes out
 
-unfoldable pub writeHead : ℕ → List ℕ → Stored
+unfoldable pub writeHead : ℕ → List ℕ → WriteOutcome
 writeHead m out = store (2 when not (isArenaOrder m) ∷ 9 when ltb (length out) (length (headBytes m)) ∷ []) (headBytes m) out
 
-unfoldable pub writeRecord : Record → List ℕ → Stored
+unfoldable pub writeRecord : Record → List ℕ → WriteOutcome
 writeRecord r out =
     store
     (7 when highRegister (kindsOf (operation r)) (fields r) ∷ 9 when ltb (length out) (length (recordBytes r)) ∷ [])
@@ -65,6 +65,6 @@ writeRecord r out =
     out
 
 -- an accepted file, written anew, gives its own bytes
-unfoldable pub rewriteFile : List ℕ → List ℕ → Stored
+unfoldable pub rewriteFile : List ℕ → List ℕ → WriteOutcome
 rewriteFile file out =
     store (fileNumber file when not (eqb (fileNumber file) 0) ∷ 9 when ltb (length out) (length file) ∷ []) file out

@@ -11,7 +11,7 @@ ghost use Prim.Native.Nat.{_+_, _≤_};
 ghost use lib.ListN.{length, drop};
 ghost use Rattle.takes.specs.Operations.{kindsOf, sizes};
 ghost use Rattle.takes.specs.Reading.{operationByte, fieldValues, highRegister, given, readAt};
-ghost use Rattle.takes.specs.Table.{digits};
+ghost use Rattle.takes.specs.Inner.{digits};
 
 // Whether the record at a place of the file has a register past the last. A register is one byte, so a field's first byte is enough.
 fn high_in_file(file: &[u8], at: usize, kinds: u32) -> bool

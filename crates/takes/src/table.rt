@@ -3,7 +3,7 @@ use common::index;
 use heap::operations;
 use heap::registers;
 ghost use mathlib.Core.Path.{_≡_};
-ghost use Rattle.takes.specs.Table.{rowOf, sizeAt, highAt};
+ghost use Rattle.takes.specs.Inner.{rowOf, sizeAt, highAt};
 
 // One past the last register.
 const REGISTERS: u32 = registers::COUNT as u32;

@@ -9,7 +9,7 @@ ghost use lib.ListN.{length, drop};
 ghost use Rattle.takes.specs.Operations.{known, kindsOf, sizes};
 ghost use Rattle.takes.specs.Records.{recordOf};
 ghost use Rattle.takes.specs.Reading.{values, readAt};
-ghost use Rattle.takes.specs.Places.{getAt, giveAt, stepAt, readFieldsAt, writeAt, leftAt, copyAt, fillAt};
+ghost use Rattle.takes.specs.Inner.{getAt, giveAt, stepAt, readFieldsAt, writeAt, leftAt, copyAt, fillAt};
 
 // Each operation's record from the bytes of its fields, which start at `at`: every field is taken straight from its place in the file.
 fn get_at(file: &[u8], at: usize) -> Record

@@ -17,8 +17,8 @@ ghost use Rattle.common.specs.Bytes.{over};
 ghost use Rattle.takes.specs.Operations.{known, kindsOf, sizes};
 ghost use Rattle.takes.specs.Reading.{highRegister};
 ghost use Rattle.takes.specs.Records.{operation, fields};
-ghost use Rattle.takes.specs.Table.{columns, digits, padded};
-ghost use Rattle.takes.specs.Writing.{stored, writeHead, writeRecord, rewriteFile, valueBytes};
+ghost use Rattle.takes.specs.Inner.{columns, digits, padded};
+ghost use Rattle.takes.specs.Writing.{writeOutcome, writeHead, writeRecord, rewriteFile, valueBytes};
 
 // The most fields that a record has.
 const FIELDS: usize = 4;
@@ -109,7 +109,7 @@ fn put_fields(out: &mut [u8], p: Parts, kinds: u32)
 
 // Stores a file's head at the start of the slice.
 pub fn write_head(out: &mut [u8], m: u32) -> Written
-    ensures { λ r. ⌜ stored r (now (out .exit)) ≡ writeHead m (now (out .entry)) ⌝ }
+    ensures { λ r. ⌜ writeOutcome r (now (out .exit)) ≡ writeHead m (now (out .entry)) ⌝ }
 {
     if m < MIN_ORDER {
         return Written {
@@ -139,7 +139,7 @@ pub fn write_head(out: &mut [u8], m: u32) -> Written
 
 // Stores a record at the start of the slice.
 pub fn write_record(out: &mut [u8], r: Record) -> Written
-    ensures { λ w. ⌜ stored w (now (out .exit)) ≡ writeRecord r (now (out .entry)) ⌝ }
+    ensures { λ w. ⌜ writeOutcome w (now (out .exit)) ≡ writeRecord r (now (out .entry)) ⌝ }
 {
     let p = parts_of(r);
     let op = p.op;
@@ -167,7 +167,7 @@ pub fn write_record(out: &mut [u8], r: Record) -> Written
 
 // Writes an accepted file anew, record by record, to the start of the slice.
 pub fn rewrite(file: &[u8], out: &mut [u8]) -> Written
-    ensures { λ r. ⌜ stored r (now (out .exit)) ≡ rewriteFile (now (file .entry)) (now (out .entry)) ⌝ }
+    ensures { λ r. ⌜ writeOutcome r (now (out .exit)) ≡ rewriteFile (now (file .entry)) (now (out .entry)) ⌝ }
 {
     let j = judge(file);
     let number = j.number;

@@ -1,8 +1,5 @@
--- `tulivombe_read_record` meets its contract.
-use mathlib.Core.Path.{_∙_, ap}
+-- By the case of the reader's answer: a record found is flattened (`found-is`), and a refusal has the flat record of no operation (`refused-is`).
 use borrow.Author.Needs.{needs}
-use Rattle.cabi.specs.declared.FlatRecord.{FlatRecord}
-use Rattle.cabi.specs.declared.Place.{Place}
 use Rattle.cabi.proofs.Flat.{found-is, refused-is}
 use Rattle.cabi.proofs.tulivombe_read_record.Statement.{statement}
 use Rattle.cabi.proofs.tulivombe_read_record.Tie as tie
@@ -23,22 +20,18 @@ flat-record-requires : tie.Need-flat-record-requires
 flat-record-requires c κs = search needs
 
 returns : tie.Need-returns
-returns c = found-is (c .before .before .before .before .read .result) _ _ _ (c .before .before .before .before .read .ensures) (c .before .before .reading .given .1) (c .flattened .ensures)
+returns c =
+    let arm = c .before .before in
+    let answer = arm .before .before .read in
+    found-is (answer .result) _ _ _ (answer .ensures) (arm .reading .given .1) (c .flattened .ensures)
 
 returns-2 : tie.Need-returns-2
 returns-2 c =
-    let number = c .before .before .reading2 .given .0 .0 in
-    let refused : FlatRecord → Place = λ x. record { number = number; item = x; next = 0 } in
-    ap refused (c .flat-record .ensures) ∙ refused-is (c .before .before .before .before .read .result) _ (c .before .before .before .before .read .ensures) (c .before .before .reading2 .given .1)
+    let arm = c .before .before in
+    let answer = arm .before .before .read in
+    refused-is (answer .result) _ _ (answer .ensures) (arm .reading2 .given .1) (c .flat-record .ensures)
 
 pub tulivombe-read-record-spec : {M : Type 1} → statement M
 tulivombe-read-record-spec =
     tie.close
-    (tie.spec
-    read-requires
-    enum-known-reading
-    flattened-requires
-    enum-known-reading-2
-    flat-record-requires
-    returns
-    returns-2)
+    (tie.spec read-requires enum-known-reading flattened-requires enum-known-reading-2 flat-record-requires returns returns-2)

@@ -1,4 +1,5 @@
--- `takes::files::judge` meets its contract. The loop: the records still to come give what the whole file gives.
+-- The loop's invariant (`Judging`): the records still to come give what the whole file gives, with those counted so far. It ends at a record that is refused,
+-- whose number is the file's, or at the file's end.
 use Prim.Native.Nat.{ℕ, _-_}
 use mathlib.Core.Path.{_≡_, sym, _∙_}
 use mathlib.Core.List.{List}
@@ -63,11 +64,14 @@ next-requires c κs = good c
 
 -- and the place after it
 module _ (c : tie.After-next Inv-loop μ-loop) where
-  abbrev l : tie.At-loop Inv-loop μ-loop
-  l = here (c .before)
+  abbrev turn : tie.At-loop Inv-loop μ-loop
+  turn = here (c .before)
 
-  after : Next (file (l .before)) (l .loop .at) (theRecord (drop (l .loop .at) (file (l .before)))) (c .next .result)
-  after = next-judged (file (l .before)) (l .loop .at) (good (c .before)) (c .next .result) (c .next .ensures)
+  abbrev bytes : List ℕ
+  bytes = file (turn .before)
+
+  after : Next bytes (turn .loop .at) (theRecord (drop (turn .loop .at) bytes)) (c .next .result)
+  after = next-judged bytes (turn .loop .at) (good (c .before)) (c .next .result) (c .next .ensures)
 
 add-count : tie.Need-add-count Inv-loop μ-loop
 add-count c = omega arith
@@ -76,7 +80,7 @@ loop-less : tie.Need-loop-less Inv-loop μ-loop
 loop-less c = omega (arith, after c)
 
 loop-again : tie.Need-loop-again Inv-loop μ-loop
-loop-again c = judging-turn (file (l c .before)) (l c .loop .at) (l c .loop .count) _ (c .next .result) (l c .loop .inv) (after c)
+loop-again c = let l = turn c .loop in judging-turn (bytes c) (l .at) (l .count) _ (c .next .result) (l .inv) (after c)
 
 shared-slice-read-wide : tie.Need-shared-slice-read-wide Inv-loop μ-loop
 shared-slice-read-wide c = omega (arith, head (c .before .before .before) .both)

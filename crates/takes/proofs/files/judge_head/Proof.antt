@@ -1,4 +1,4 @@
--- `takes::files::judge_head` meets its contract: a definition for each return.
+-- A law of `Heads` for each return, from the tests that were passed before it.
 use borrow.Author.Needs.{needs}
 use native.Mathlib.Omega.{arith}
 use mathlib.Core.Path.{_≡_}

@@ -1,5 +1,6 @@
--- `takes::reader::high_in_file` meets its contract. The loop: the fields still to come hold a high register where the whole record does.
-use Prim.Native.Nat.{ℕ, _%_}
+-- The loop's invariant (`Looking`): the fields still to come hold a high register where the whole record does. A turn takes the last digit of the kinds and
+-- looks at the field's first byte; it stops at a high register, or when no digit is left.
+use Prim.Native.Nat.{ℕ, _+_, _/_, _%_}
 use mathlib.Core.List.{List}
 use mathlib.Core.Path.{_≡_, refl, sym, _∙_, ap}
 use native.Mathlib.Omega.{arith}
@@ -8,7 +9,7 @@ use lib.ListN.{getD, drop}
 use lib.Seq.{drop-drop}
 use Rattle.takes.specs.Operations.{Kind, kindsOf}
 use Rattle.takes.specs.Reading.{operationByte, fieldValues, highRegister}
-use Rattle.takes.specs.Table.{highAt}
+use Rattle.takes.specs.Inner.{highAt}
 use Rattle.takes.proofs.Rows.{Looking, looking-byte, looking-stop, looking-turn, looking-end}
 use Rattle.takes.proofs.reader.high_in_file.Statement.{statement}
 use Rattle.takes.proofs.reader.high_in_file.Tie as tie
@@ -58,18 +59,36 @@ returns c = let h = c .before in looking-stop (head h .loop .inv) (turn h .loop-
 size-of-requires : tie.Need-size-of-requires Inv-loop μ-loop
 size-of-requires c κs = search needs
 
+-- the field is no high register, and its size is known: the fields after it are still to come
+module _ (c : tie.After-size-of Inv-loop μ-loop) where
+  abbrev looked : tie.After-is-high Inv-loop μ-loop
+  looked = c .before .before
+
+  abbrev here : tie.At-loop Inv-loop μ-loop
+  here = head looked
+
+  abbrev entry : tie.Start Inv-loop μ-loop
+  entry = here .before .before
+
+  abbrev bytes : List ℕ
+  bytes = entry .args .file .now
+
+  abbrev at : ℕ
+  at = entry .args .at
+
+  turned : Looking bytes (highRegister (kindsAt bytes at) (fieldValues (drop at bytes))) (here .loop .left / 16) (here .loop .place + c .size-of .result)
+  turned =
+      let low = sym (c .before .if1 .left) ∙ told looked in
+      looking-turn (here .loop .inv) (turn looked .loop-test .taken) (c .size-of .result) (c .size-of .ensures) low
+
 add-place-2 : tie.Need-add-place-2 Inv-loop μ-loop
-add-place-2 c =
-    let h = c .before .before in
-    omega (arith, looking-turn (head h .loop .inv) (turn h .loop-test .taken) (c .size-of .result) (c .size-of .ensures) (sym (c .before .if1 .left) ∙ told h))
+add-place-2 c = omega (arith, turned c)
 
 loop-less : tie.Need-loop-less Inv-loop μ-loop
 loop-less c = omega arith
 
 loop-again : tie.Need-loop-again Inv-loop μ-loop
-loop-again c =
-    let h = c .before .before in
-    looking-turn (head h .loop .inv) (turn h .loop-test .taken) (c .size-of .result) (c .size-of .ensures) (sym (c .before .if1 .left) ∙ told h)
+loop-again c = turned c
 
 returns-2 : tie.Need-returns-2 Inv-loop μ-loop
 returns-2 c = looking-end (c .before .loop .inv) (c .loop-test .left)

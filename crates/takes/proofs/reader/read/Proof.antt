@@ -1,4 +1,4 @@
--- `takes::reader::read` meets its contract: by the refusal's number a record is refused, or found by the inner reader.
+-- By the number of `refusal`: other than 0, the reading is refused with it; 0, and the inner reader finds the record and the next place.
 use mathlib.Core.Path.{sym, _∙_}
 use borrow.Author.Needs.{needs}
 use Rattle.takes.proofs.Readings.{refused-reading, good-found}

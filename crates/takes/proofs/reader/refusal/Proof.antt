@@ -1,9 +1,11 @@
--- `takes::reader::refusal` meets its contract: a lemma for each return.
+-- A law of `Readings` for each return. Past each test its outcome is kept for the later ones: the length byte, that its bytes are there, the row, that the
+-- length is the row's.
 use Prim.Native.Nat.{_%_}
 use mathlib.Core.Path.{_≡_, _∙_, sym}
 use lib.ListN.{getD}
 use borrow.Author.Needs.{needs}
-use Rattle.takes.proofs.Readings.{the-number, past-end, zero-length, too-few, Counted, unlisted, kinds-at, wrong-length, fields-fit, high-at, good-at}
+use Rattle.takes.proofs.Readings.{the-number, past-end, zero-length, too-few}
+use Rattle.takes.proofs.Readings.{Counted, unlisted, kinds-at, wrong-length, fields-fit, high-at, good-at}
 use Rattle.takes.proofs.reader.refusal.Statement.{statement}
 use Rattle.takes.proofs.reader.refusal.Tie as tie
 
@@ -25,10 +27,15 @@ sub-if3 c = search needs
 index-requires : tie.Need-index-requires
 index-requires c κs = search needs
 
+-- the length byte is read, and is not 0
+module _ (c : tie.After-index) where
+  abbrev start : tie.Start
+  start = c .before .before .before .before .before
+
 returns-3 : tie.Need-returns-3
 returns-3 c =
     let i = c .before in
-    let a = i .before .before .before .before .before .args in
+    let a = start i .args in
     the-number (too-few (a .file .now) (a .at) (i .index .result) (i .before .if2 .left) (i .index .ensures) (c .if3 .taken))
 
 shared-slice-read-row-of : tie.Need-shared-slice-read-row-of
@@ -37,7 +44,7 @@ shared-slice-read-row-of c = search needs
 row-of-requires : tie.Need-row-of-requires
 row-of-requires c κs = search needs
 
--- past 4
+-- past 4: the record's bytes are there, and its row is looked up
 module _ (c : tie.After-row-of) where
   abbrev enough : tie.Else3
   enough = c .before .before
@@ -45,10 +52,10 @@ module _ (c : tie.After-row-of) where
   abbrev counting : tie.After-index
   counting = enough .before
 
-  abbrev start : tie.Start
-  start = counting .before .before .before .before .before
+  abbrev entry : tie.Start
+  entry = start counting
 
-  counted : Counted (start .args .file .now) (start .args .at) (counting .index .result) (c .row-of .result)
+  counted : Counted (entry .args .file .now) (entry .args .at) (counting .index .result) (c .row-of .result)
   counted =
       record {
         nonzero = counting .before .if2 .left;
@@ -76,7 +83,7 @@ returns-5 c =
     let w = c .before in
     the-number (wrong-length (counted (found w)) (listed w .if4 .left) (λ e. c .if5 .taken (w .wide .ensures ∙ e)))
 
--- past 6
+-- past 6: the length byte is the row's
 module _ (c : tie.Else5) where
   abbrev looked : tie.After-row-of
   looked = found (c .before)
@@ -84,7 +91,7 @@ module _ (c : tie.Else5) where
   abbrev some-row : looked .row-of .result ≡ 0 → ⊥
   some-row = listed (c .before) .if4 .left
 
-  right : getD (start looked .args .file .now) (start looked .args .at) 0 ≡ looked .row-of .result % 256
+  right : getD (entry looked .args .file .now) (entry looked .args .at) 0 ≡ looked .row-of .result % 256
   right = sym (c .before .wide .ensures) ∙ c .if5 .left
 
 high-in-file-requires : tie.Need-high-in-file-requires

@@ -1,4 +1,4 @@
--- `takes::table::is_high` meets its contract: by the kind, told by the test.
+-- By cases of the kind's number, as the test tells it: each computes.
 use borrow.Author.Tests.{ne-eqb}
 use Rattle.takes.proofs.table.is_high.Statement.{statement}
 use Rattle.takes.proofs.table.is_high.Tie as tie

@@ -1,4 +1,4 @@
--- `takes::table::row_of` meets its contract: the table's rule, and past the last row there is no operation.
+-- Below `rows` the code's table has the row (`rows-right`); past it there is no operation, and the row is 0 (`rows-past`).
 use mathlib.Core.Path.{_∙_, ap}
 use Prim.Native.Nat.{ℕ}
 use native.Mathlib.Omega.{arith}

@@ -1,4 +1,4 @@
--- `takes::unchecked::next` meets its contract: a good record lies in the file.
+-- A good record lies in the file (`good-fits`, `good-inside`), and its length byte leads to the reading's next place.
 use native.Mathlib.Omega.{arith}
 use borrow.Author.Needs.{needs}
 use Rattle.takes.proofs.Readings.{good-fits, good-next, good-inside}

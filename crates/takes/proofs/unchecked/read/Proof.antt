@@ -1,4 +1,4 @@
--- `takes::unchecked::read` meets its contract: a good record has an operation of the table and all its fields.
+-- A good record has an operation of the table and all its fields (`good-known`, `good-fits`), so `record_at` gives the reading's record.
 use native.Mathlib.Omega.{arith}
 use Rattle.takes.proofs.Readings.{good-known, good-fits, good-record}
 use Rattle.takes.proofs.unchecked.read.Statement.{statement}

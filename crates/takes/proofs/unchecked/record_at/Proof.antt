@@ -1,42 +1,27 @@
--- `takes::unchecked::record_at` meets its contract: an arm for each operation, and a law for each arm.
-use Prim.Native.Nat.{ℕ, suc, _<_}
-use mathlib.Core.Path.{_≡_}
+-- An arm for each operation n: what it needs of the file is what the row of n asks (`fits`), and its record is that of the row (`gives`, with a law for each
+-- operation). The last arm is left to fill: an operation of the table that is none of those before.
+use Prim.Native.Nat.{ℕ, suc, _+_, _≤_, _<_}
+use mathlib.Core.Path.{_≡_, sym, _∙_, ap}
+use mathlib.Core.List.{List}
 use native.Mathlib.Omega.{arith}
+use lib.ListN.{length}
 use Rattle.heap.specs.Operations.{lastOperation}
-use Rattle.takes.specs.Operations.{kindsOf}
-use Rattle.takes.specs.Table.{rows}
+use Rattle.takes.specs.Operations.{kindsOf, sizes}
+use Rattle.takes.specs.Inner.{rows, getAt, giveAt, stepAt, readFieldsAt, writeAt, leftAt, copyAt, fillAt}
+use Rattle.takes.specs.declared.Record.{Record}
 use Rattle.takes.proofs.Operations.{in-table}
-use Rattle.takes.proofs.Records.{arm-fits, arm-is, get-is, give-is, step-is, read-is, write-is, left-is, copy-is, fill-is}
+use Rattle.takes.proofs.Records.{made, get-is, give-is, step-is, read-is, write-is, left-is, copy-is, fill-is}
 use Rattle.takes.proofs.unchecked.record_at.Statement.{statement}
 use Rattle.takes.proofs.unchecked.record_at.Tie as tie
 
-get-at-requires : tie.Need-get-at-requires
-unfolding kindsOf
-get-at-requires c κs = let a = c .before .before .args in arm-fits (a .file .now) (a .at) (a .op) 1 (c .match .keys1) (c .before .before .pre .1)
+-- an arm, taken for the operation n
+module _ (s : tie.Start) (n : ℕ) (is : s .args .op ≡ n) where
+  fits : s .args .at + sizes (kindsOf n) ≤ length (s .args .file .now)
+  fits = rw is at (s .pre .1)
 
-give-at-requires : tie.Need-give-at-requires
-unfolding kindsOf
-give-at-requires c κs = let a = c .before .before .args in arm-fits (a .file .now) (a .at) (a .op) 2 (c .match .keys2) (c .before .before .pre .1)
-
-step-at-requires : tie.Need-step-at-requires
-unfolding kindsOf
-step-at-requires c κs = let a = c .before .before .args in arm-fits (a .file .now) (a .at) (a .op) 3 (c .match .keys3) (c .before .before .pre .1)
-
-read-at-requires : tie.Need-read-at-requires
-unfolding kindsOf
-read-at-requires c κs = let a = c .before .before .args in arm-fits (a .file .now) (a .at) (a .op) 4 (c .match .keys4) (c .before .before .pre .1)
-
-write-at-requires : tie.Need-write-at-requires
-unfolding kindsOf
-write-at-requires c κs = let a = c .before .before .args in arm-fits (a .file .now) (a .at) (a .op) 5 (c .match .keys5) (c .before .before .pre .1)
-
-left-at-requires : tie.Need-left-at-requires
-unfolding kindsOf
-left-at-requires c κs = let a = c .before .before .args in arm-fits (a .file .now) (a .at) (a .op) 6 (c .match .keys6) (c .before .before .pre .1)
-
-copy-at-requires : tie.Need-copy-at-requires
-unfolding kindsOf
-copy-at-requires c κs = let a = c .before .before .args in arm-fits (a .file .now) (a .at) (a .op) 7 (c .match .keys7) (c .before .before .pre .1)
+  gives : {r : Record} (place : List ℕ → ℕ → Record) → ((file : List ℕ) (at : ℕ) → place file at ≡ made file at n)
+      → r ≡ place (s .args .file .now) (s .args .at) → r ≡ made (s .args .file .now) (s .args .at) (s .args .op)
+  gives place law p = p ∙ (law _ _ ∙ ap (made (s .args .file .now) (s .args .at)) (sym is))
 
 -- the operation that is left: above 0, and none of those before
 past : {op n : ℕ} → n < op → (op ≡ suc n → ⊥) → suc n < op
@@ -52,67 +37,24 @@ last c =
     let above-3 = past (past (past (t .above) (r .0 .0 .0 .0 .0 .0 .1)) (r .0 .0 .0 .0 .0 .1)) (r .0 .0 .0 .0 .1) in
     only (past (past (past (past above-3 (r .0 .0 .0 .1)) (r .0 .0 .1)) (r .0 .1)) (r .1)) (t .below)
 
-fill-at-requires : tie.Need-fill-at-requires
-unfolding kindsOf
-fill-at-requires c κs = let a = c .before .before .args in arm-fits (a .file .now) (a .at) (a .op) 8 (last c) (c .before .before .pre .1)
-
-returns : tie.Need-returns
-returns c =
-    let a = c .before .before .before .args in
-    arm-is (a .file .now) (a .at) (a .op) 1 (c .get-at .result) _ (c .before .match .keys1) (c .get-at .ensures) (get-is (a .file .now) (a .at))
-
-returns-2 : tie.Need-returns-2
-returns-2 c =
-    let a = c .before .before .before .args in
-    arm-is (a .file .now) (a .at) (a .op) 2 (c .give-at .result) _ (c .before .match .keys2) (c .give-at .ensures) (give-is (a .file .now) (a .at))
-
-returns-3 : tie.Need-returns-3
-returns-3 c =
-    let a = c .before .before .before .args in
-    arm-is (a .file .now) (a .at) (a .op) 3 (c .step-at .result) _ (c .before .match .keys3) (c .step-at .ensures) (step-is (a .file .now) (a .at))
-
-returns-4 : tie.Need-returns-4
-returns-4 c =
-    let a = c .before .before .before .args in
-    arm-is (a .file .now) (a .at) (a .op) 4 (c .read-at .result) _ (c .before .match .keys4) (c .read-at .ensures) (read-is (a .file .now) (a .at))
-
-returns-5 : tie.Need-returns-5
-returns-5 c =
-    let a = c .before .before .before .args in
-    arm-is (a .file .now) (a .at) (a .op) 5 (c .write-at .result) _ (c .before .match .keys5) (c .write-at .ensures) (write-is (a .file .now) (a .at))
-
-returns-6 : tie.Need-returns-6
-returns-6 c =
-    let a = c .before .before .before .args in
-    arm-is (a .file .now) (a .at) (a .op) 6 (c .left-at .result) _ (c .before .match .keys6) (c .left-at .ensures) (left-is (a .file .now) (a .at))
-
-returns-7 : tie.Need-returns-7
-returns-7 c =
-    let a = c .before .before .before .args in
-    arm-is (a .file .now) (a .at) (a .op) 7 (c .copy-at .result) _ (c .before .match .keys7) (c .copy-at .ensures) (copy-is (a .file .now) (a .at))
-
-returns-8 : tie.Need-returns-8
-returns-8 c =
-    let a = c .before .before .before .args in
-    arm-is (a .file .now) (a .at) (a .op) 8 (c .fill-at .result) _ (last (c .before)) (c .fill-at .ensures) (fill-is (a .file .now) (a .at))
-
 pub record-at-spec : {M : Type 1} → statement M
+unfolding kindsOf
 record-at-spec =
     tie.close
     (tie.spec
-    get-at-requires
-    give-at-requires
-    step-at-requires
-    read-at-requires
-    write-at-requires
-    left-at-requires
-    copy-at-requires
-    fill-at-requires
-    returns
-    returns-2
-    returns-3
-    returns-4
-    returns-5
-    returns-6
-    returns-7
-    returns-8)
+    (λ c κs. fits (c .before .before) 1 (c .match .keys1))
+    (λ c κs. fits (c .before .before) 2 (c .match .keys2))
+    (λ c κs. fits (c .before .before) 3 (c .match .keys3))
+    (λ c κs. fits (c .before .before) 4 (c .match .keys4))
+    (λ c κs. fits (c .before .before) 5 (c .match .keys5))
+    (λ c κs. fits (c .before .before) 6 (c .match .keys6))
+    (λ c κs. fits (c .before .before) 7 (c .match .keys7))
+    (λ c κs. fits (c .before .before) 8 (last c))
+    (λ c. gives (c .before .before .before) 1 (c .before .match .keys1) getAt get-is (c .get-at .ensures))
+    (λ c. gives (c .before .before .before) 2 (c .before .match .keys2) giveAt give-is (c .give-at .ensures))
+    (λ c. gives (c .before .before .before) 3 (c .before .match .keys3) stepAt step-is (c .step-at .ensures))
+    (λ c. gives (c .before .before .before) 4 (c .before .match .keys4) readFieldsAt read-is (c .read-at .ensures))
+    (λ c. gives (c .before .before .before) 5 (c .before .match .keys5) writeAt write-is (c .write-at .ensures))
+    (λ c. gives (c .before .before .before) 6 (c .before .match .keys6) leftAt left-is (c .left-at .ensures))
+    (λ c. gives (c .before .before .before) 7 (c .before .match .keys7) copyAt copy-is (c .copy-at .ensures))
+    (λ c. gives (c .before .before .before) 8 (last (c .before)) fillAt fill-is (c .fill-at .ensures)))

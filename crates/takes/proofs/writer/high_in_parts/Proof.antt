@@ -1,11 +1,12 @@
--- `takes::writer::high_in_parts` meets its contract. The loop: the columns still to come have a high register where the whole record has.
+-- The loop's invariant (`Seeking`): the columns still to come have a high register where the whole record has. A turn takes the last digit of the kinds and
+-- looks at its column.
 use Prim.Native.Nat.{_+_, _≤_}
 use mathlib.Core.Path.{refl, sym, _∙_}
 use native.Mathlib.Omega.{arith}
 use borrow.Author.Needs.{needs}
 use Rattle.takes.specs.Operations.{kindsOf}
 use Rattle.takes.specs.Reading.{highRegister}
-use Rattle.takes.specs.Table.{columns}
+use Rattle.takes.specs.Inner.{columns}
 use Rattle.takes.proofs.Operations.{in-table}
 use Rattle.takes.proofs.Rows.{Seeking, seeking-column, seeking-stop, seeking-turn, seeking-end}
 use Rattle.takes.proofs.writer.high_in_parts.Statement.{statement}

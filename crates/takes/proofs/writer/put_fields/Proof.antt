@@ -1,4 +1,5 @@
--- `takes::writer::put_fields` meets its contract. The loop: what is still to be put, at the place reached, gives the whole.
+-- The loop's invariant (`Putting`): what is still to be put, at the place reached, gives the whole. A turn takes the last digit of the kinds, and puts the
+-- value of its column in as many bytes.
 use Prim.Native.Nat.{_+_, _≤_}
 use mathlib.Core.Path.{refl}
 use native.Mathlib.Omega.{arith}
@@ -7,7 +8,7 @@ use lib.ListN.{length}
 use Rattle.common.specs.Bytes.{over}
 use Rattle.takes.specs.Operations.{kindsOf}
 use Rattle.takes.specs.Writing.{valueBytes}
-use Rattle.takes.specs.Table.{columns}
+use Rattle.takes.specs.Inner.{columns}
 use Rattle.takes.proofs.Operations.{in-table}
 use Rattle.takes.proofs.Rows.{Putting, putting-column, putting-room, putting-turn, putting-end}
 use Rattle.takes.proofs.writer.put_fields.Statement.{statement}
@@ -57,18 +58,23 @@ element-copy-out-v c = omega (arith, column c)
 write-number-requires : tie.Need-write-number-requires Inv-loop μ-loop
 write-number-requires c κs = room (c .before .before)
 
+-- its bytes are written
+module _ (c : tie.After-write-number Inv-loop μ-loop) where
+  abbrev field : tie.After-size-of Inv-loop μ-loop
+  field = c .before .before .before
+
 add-at : tie.Need-add-at Inv-loop μ-loop
-add-at c = omega (arith, room (c .before .before .before .before .before))
+add-at c = omega (arith, room (field (c .before .before)))
 
 add-k : tie.Need-add-k Inv-loop μ-loop
-add-k c = omega (arith, column (c .before .before .before .before .before))
+add-k c = omega (arith, column (field (c .before .before)))
 
 loop-less : tie.Need-loop-less Inv-loop μ-loop
 loop-less c = omega arith
 
 loop-again : tie.Need-loop-again Inv-loop μ-loop
 loop-again c =
-    let f = c .before .before .before .before .before in
+    let f = field (c .before .before) in
     let w = c .before .before .write-number in
     putting-turn (head f .loop .inv) (f .before .loop-test .taken) (f .size-of .result) (f .size-of .ensures) (w .last .0) (w .ensures) (w .kept .0)
 

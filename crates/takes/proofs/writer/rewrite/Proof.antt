@@ -1,4 +1,5 @@
--- `takes::writer::rewrite` meets its contract. The loop: the file's bytes up to the place, and after it what was there.
+-- The loop's invariant (`Rewriting`): up to the place the slice has the file's bytes, behind it what was there. A refused file and a slice that is too short
+-- are told before the loop; each turn writes the record that was read, whose bytes are the file's.
 use Prim.Native.Nat.{ℕ, _-_}
 use mathlib.Core.Path.{_≡_, sym, _∙_}
 use mathlib.Core.List.{List}
@@ -6,11 +7,12 @@ use native.Mathlib.Omega.{arith}
 use lib.ListN.{length}
 use borrow.Author.Needs.{needs}
 use Rattle.takes.specs.Reading.{readAt}
-use Rattle.takes.specs.Files.{sizeByte, fileNumber}
+use Rattle.takes.specs.Files.{headLength, sizeByte, fileNumber}
 use Rattle.takes.specs.RoundTrips.{Bytes}
 use Rattle.takes.proofs.Walks.{Next, found-next, accepted-here}
 use Rattle.takes.proofs.Judging.{Head, head-accepted, file-accepted}
-use Rattle.takes.proofs.Rewriting.{Rewriting, number-judged, size-judged, rewriting-start, rewriting-turn, rewriting-end, rewrite-refused, rewrite-short}
+use Rattle.takes.proofs.Rewriting.{Rewriting, number-judged, size-judged, rewriting-start, rewriting-turn, rewriting-end}
+use Rattle.takes.proofs.Rewriting.{rewrite-refused, rewrite-short}
 use Rattle.takes.proofs.writer.rewrite.Statement.{statement}
 use Rattle.takes.proofs.writer.rewrite.Tie as tie
 
@@ -51,37 +53,48 @@ module _ (c : tie.Else2 Inv-loop μ-loop) where
   abbrev judged : tie.After-judge Inv-loop μ-loop
   judged = c .before .before
 
-  good : fileNumber (file judged) ≡ 0
+  abbrev file-in : List ℕ
+  file-in = file judged
+
+  good : fileNumber file-in ≡ 0
   good = sym (numbered judged) ∙ c .before .if1 .left
 
-  size : judged .judge .result .size ≡ sizeByte (file judged)
-  size = size-judged (file judged) (judged .judge .result) (judged .judge .ensures) (c .before .if1 .left)
+  size : judged .judge .result .size ≡ sizeByte file-in
+  size = size-judged file-in (judged .judge .result) (judged .judge .ensures) (c .before .if1 .left)
 
-  head : Head (file judged)
-  head = head-accepted (file judged) (file-accepted (file judged) good .0)
+  head : Head file-in
+  head = head-accepted file-in (file-accepted file-in good .0)
 
-  bytes : Bytes (file judged)
+  bytes : Bytes file-in
   bytes i = omega (arith, judged .before .before .shared-slice-known .given i)
 
-loop-holds : tie.Need-loop-holds Inv-loop μ-loop
-loop-holds c =
-    let h = c .before .before in
-    let e = h .before .before in
-    let w = h .write-head in
-    rewriting-start (file (judged e)) (lent (judged e)) (judged e .judge .result .size) (w .result) (w .last .0)
-    (good e) (size e) (e .if2 .left) (w .ensures) (w .kept .0)
-
--- the loop's head: what was there before, and the record that comes next
-module _ (c : tie.At-loop Inv-loop μ-loop) where
-  abbrev headed : tie.After-write-head Inv-loop μ-loop
-  headed = c .before .before .before
-
+-- once its head is written
+module _ (c : tie.After-write-head Inv-loop μ-loop) where
   abbrev room : tie.Else2 Inv-loop μ-loop
-  room = headed .before .before
+  room = c .before .before
 
+  abbrev headed : List ℕ
+  headed = c .write-head .last .0
+
+  first-record : Rewriting (file-in room) headed headed headLength
+  first-record =
+      let j = judged room in
+      rewriting-start (file j) (lent j) (j .judge .result .size) (c .write-head .result) headed (good room) (size room) (room .if2 .left)
+      (c .write-head .ensures) (c .write-head .kept .0)
+
+loop-holds : tie.Need-loop-holds Inv-loop μ-loop
+loop-holds c = first-record (c .before .before)
+
+-- in the loop: the record that comes next is accepted
 module _ (c : tie.In-loop Inv-loop μ-loop) where
-  here : readAt (file (judged (room (c .before)))) (c .before .loop .at) .number ≡ 0
-  here = accepted-here (file (judged (room (c .before)))) (c .before .loop .at) (c .before .loop .inv .accepted) (c .loop-test .taken)
+  abbrev turn : tie.At-loop Inv-loop μ-loop
+  turn = c .before
+
+  abbrev from : tie.After-write-head Inv-loop μ-loop
+  from = turn .before .before .before
+
+  here : readAt (file-in (room from)) (turn .loop .at) .number ≡ 0
+  here = accepted-here (file-in (room from)) (turn .loop .at) (turn .loop .inv .accepted) (c .loop-test .taken)
 
 read-requires : tie.Need-read-requires Inv-loop μ-loop
 read-requires c κs = here c
@@ -98,45 +111,63 @@ part-write-record-end c = search needs
 write-record-requires : tie.Need-write-record-requires Inv-loop μ-loop
 write-record-requires c κs = search needs
 
-next-requires : tie.Need-next-requires Inv-loop μ-loop
-next-requires c κs = here (c .before .before .before .before .before)
-
--- a record that was read, and the place after it
-module _ (c : tie.After-next Inv-loop μ-loop) where
+-- the record that was read is written
+module _ (c : tie.After-write-record Inv-loop μ-loop) where
   abbrev found : tie.After-read Inv-loop μ-loop
-  found = c .before .before .before .before .before
+  found = c .before .before
+
+  abbrev inside : tie.In-loop Inv-loop μ-loop
+  inside = found .before
+
+next-requires : tie.Need-next-requires Inv-loop μ-loop
+next-requires c κs = here (inside (c .before .before))
+
+-- and the place after it is known
+module _ (c : tie.After-next Inv-loop μ-loop) where
+  abbrev put : tie.After-write-record Inv-loop μ-loop
+  put = c .before .before .before
 
   abbrev at : tie.At-loop Inv-loop μ-loop
-  at = found .before .before
+  at = turn (inside put)
 
-  next-is : Next (file (judged (room at))) (at .loop .at) (found .read .result) (c .next .result)
+  abbrev start-of-loop : tie.After-write-head Inv-loop μ-loop
+  start-of-loop = from (inside put)
+
+  next-is : Next (file-in (room start-of-loop)) (at .loop .at) (found put .read .result) (c .next .result)
   next-is =
-      found-next (file (judged (room at))) (at .loop .at) (here (found .before))
-      (found .read .result) (c .next .result) (found .read .ensures) (c .next .ensures)
+      found-next (file-in (room start-of-loop)) (at .loop .at) (here (inside put))
+      (found put .read .result) (c .next .result) (found put .read .ensures) (c .next .ensures)
 
 loop-less : tie.Need-loop-less Inv-loop μ-loop
 loop-less c = omega (arith, next-is c)
 
 loop-again : tie.Need-loop-again Inv-loop μ-loop
 loop-again c =
-    let l = at c in
-    let w = c .before .before .before .write-record in
-    rewriting-turn (file (judged (room l))) (headed l .write-head .last .0) (l .loop .out) (l .loop .at)
-    (found c .read .result) (c .next .result) (w .result) (w .last .0) (bytes (room l)) (l .loop .inv) (next-is c) (w .ensures)
+    let h = start-of-loop c in
+    let l = at c .loop in
+    let w = put c .write-record in
+    rewriting-turn (file-in (room h)) (headed h) (l .out) (l .at) (found (put c) .read .result) (c .next .result) (w .result) (w .last .0)
+    (bytes (room h)) (l .inv) (next-is c) (w .ensures)
+
+-- past the last record
+module _ (c : tie.At-loop Inv-loop μ-loop) where
+  abbrev headed-by : tie.After-write-head Inv-loop μ-loop
+  headed-by = c .before .before .before
 
 cast-t20 : tie.Need-cast-t20 Inv-loop μ-loop
-cast-t20 c = omega (arith, head (room (c .before)))
+cast-t20 c = omega (arith, head (room (headed-by (c .before))))
 
 same-length : tie.Need-same-length Inv-loop μ-loop
-same-length c = c .before .loop .inv .same ∙ headed (c .before) .write-head .kept .0
+same-length c = c .before .loop .inv .same ∙ headed-by (c .before) .write-head .kept .0
 
 returns-3 : tie.Need-returns-3 Inv-loop μ-loop
 returns-3 c =
-    let l = c .before in
-    let e = room l in
-    let w = headed l .write-head in
-    rewriting-end (file (judged e)) (lent (judged e)) (judged e .judge .result .size) (w .result) (w .last .0)
-    (l .loop .at) (l .loop .out) (good e) (size e) (e .if2 .left) (w .ensures) (l .loop .inv) (c .loop-test .left)
+    let l = c .before .loop in
+    let h = headed-by (c .before) in
+    let e = room h in
+    let j = judged e in
+    rewriting-end (file j) (lent j) (j .judge .result .size) (h .write-head .result) (headed h) (good e) (size e) (e .if2 .left) (h .write-head .ensures)
+    (l .at) (l .out) (l .inv) (c .loop-test .left)
 
 pub rewrite-spec : {M : Type 1} → statement M
 rewrite-spec =

@@ -1,4 +1,4 @@
--- `takes::writer::write_head` meets its contract.
+-- A law of `Heads` for each return: m too small, m too large, no room, and the two bytes stored.
 use borrow.Author.Needs.{needs}
 use native.Mathlib.Omega.{arith}
 use Rattle.takes.proofs.Heads.{small-m, large-m, no-room, head-stored}

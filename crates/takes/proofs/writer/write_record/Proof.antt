@@ -1,4 +1,5 @@
--- `takes::writer::write_record` meets its contract: a lemma for each return, over the record taken apart.
+-- The record is taken apart, and its row says its length and its kinds. A law of `Records` for each return over those parts: a high register, no room, and
+-- the bytes stored.
 use Prim.Native.Nat.{ℕ, _/_, _%_}
 use mathlib.Core.Path.{_≡_, sym, _∙_}
 use mathlib.Core.Bool.{true, false}
@@ -8,7 +9,7 @@ use borrow.Author.Needs.{needs}
 use lib.ListN.{length, length-set}
 use Rattle.takes.specs.Operations.{known, kindsOf, lengthOf}
 use Rattle.takes.specs.Reading.{highRegister}
-use Rattle.takes.specs.Table.{columns, digits}
+use Rattle.takes.specs.Inner.{columns, digits}
 use Rattle.takes.proofs.Operations.{row-length, row-kinds}
 use Rattle.takes.proofs.Records.{part-known, part-columns, write-high, write-short, write-done}
 use Rattle.takes.proofs.writer.write_record.Statement.{statement}

@@ -1,15 +1,29 @@
--- Document 01's worked take and refused files, judged by the definitions.
+-- Document 01's worked take and refused files, computed by the definitions. To unfold `judged`, `numbers` or `readings` is to unfold all that it computes with.
 use Prim.Native.Nat.{ℕ}
 use mathlib.Core.Path.{_≡_, refl}
 use mathlib.Core.List.{List, [], _∷_, map}
 use lib.ListN.{replicate}
 use Rattle.takes.specs.Operations.{known, kindsOf, lengthOf}
 use Rattle.takes.specs.Records.{recordOf}
-use Rattle.takes.specs.Reading.{readRules, readBytes, readAt, accepted, refused}
+use Rattle.takes.specs.Reading.{Given, readRules, readBytes, readAt, recordFound, recordRefused}
 use Rattle.takes.specs.Files.{walk, headNumber, fileNumber, recordsOf, judgement}
 use Rattle.takes.specs.Writing.{recordBytes, recordsBytes, fileOf}
 use Rattle.takes.specs.declared.Record.{Record}
 use Rattle.takes.specs.declared.Record.the-variants.{Get, Give, Step, Read}
+use Rattle.takes.specs.declared.Judgement.{Judgement}
+
+-- a file's judgement and its records; the numbers of several files; the readings at several places of one
+judged : List ℕ → Judgement × List Record
+unfolding fileNumber headNumber recordsOf walk readBytes readRules known kindsOf recordOf
+judged file = (judgement file, recordsOf file)
+
+numbers : List (List ℕ) → List ℕ
+unfolding judged
+numbers = map fileNumber
+
+readings : List ℕ → List ℕ → List Given
+unfolding judged
+readings file = map (readAt file)
 
 -- document 01's column of lengths
 lengths : map lengthOf (1 ∷ 2 ∷ 3 ∷ 4 ∷ 5 ∷ 6 ∷ 7 ∷ 8 ∷ []) ≡ 6 ∷ 2 ∷ 7 ∷ 4 ∷ 7 ∷ 3 ∷ 8 ∷ 8 ∷ []
@@ -32,12 +46,8 @@ worked =
 abbrev pub workedRecords : List Record
 workedRecords = Get 0 20 ∷ Get 1 16 ∷ Step 2 0 32 ∷ Read 3 2 1 ∷ Step 2 2 4294967295 ∷ Get 4 32 ∷ Give 0 ∷ []
 
-worked-records : recordsOf worked ≡ workedRecords
-unfolding recordsOf walk readBytes readRules known kindsOf recordOf
-worked-records = refl
-
-worked-judged : judgement worked ≡ record { number = 0; size = 6; count = 7 }
-unfolding fileNumber headNumber recordsOf walk readBytes readRules known kindsOf recordOf
+worked-judged : judged worked ≡ (record { number = 0; size = 6; count = 7 }, workedRecords)
+unfolding judged
 worked-judged = refl
 
 worked-written : fileOf 6 workedRecords ≡ worked
@@ -45,28 +55,28 @@ unfolding recordsBytes recordBytes kindsOf
 worked-written = refl
 
 -- a head and no record
-head-alone : judgement (1 ∷ 5 ∷ []) ≡ record { number = 0; size = 5; count = 0 }
-unfolding fileNumber headNumber recordsOf walk readBytes readRules known kindsOf recordOf
+head-alone : judged (1 ∷ 5 ∷ []) ≡ (record { number = 0; size = 5; count = 0 }, [])
+unfolding judged
 head-alone = refl
 
 -- 8,192 bytes are judged further, 8,193 are too long
 abbrev zeros : ℕ → List ℕ
 zeros n = 1 ∷ 6 ∷ replicate n 0
 
-too-long : map fileNumber (zeros 8190 ∷ zeros 8191 ∷ []) ≡ 4 ∷ 3 ∷ []
-unfolding fileNumber headNumber walk readBytes readRules known kindsOf recordOf
+too-long : numbers (zeros 8190 ∷ zeros 8191 ∷ []) ≡ 4 ∷ 3 ∷ []
+unfolding numbers
 too-long = refl
 
 -- empty; first byte 2; size byte missing, 4, 17
-refused-heads : map fileNumber ([] ∷ (2 ∷ 6 ∷ []) ∷ (1 ∷ []) ∷ (1 ∷ 4 ∷ []) ∷ (1 ∷ 17 ∷ []) ∷ []) ≡ 1 ∷ 1 ∷ 2 ∷ 2 ∷ 2 ∷ []
-unfolding fileNumber headNumber walk readBytes readRules known kindsOf recordOf
+refused-heads : numbers ([] ∷ (2 ∷ 6 ∷ []) ∷ (1 ∷ []) ∷ (1 ∷ 4 ∷ []) ∷ (1 ∷ 17 ∷ []) ∷ []) ≡ 1 ∷ 1 ∷ 2 ∷ 2 ∷ 2 ∷ []
+unfolding numbers
 refused-heads = refl
 
 abbrev one : List ℕ → List ℕ
 one bytes = 1 ∷ 6 ∷ bytes
 
 -- length 0; more than the bytes left; operation 9; length 7 of a get; register 16; a 7 before a 4 in the next record
-refused-records : map fileNumber
+refused-records : numbers
     (one (0 ∷ [])
     ∷ one (2 ∷ 2 ∷ [])
     ∷ one (2 ∷ 9 ∷ 0 ∷ [])
@@ -75,10 +85,11 @@ refused-records : map fileNumber
     ∷ one (2 ∷ 2 ∷ 16 ∷ 0 ∷ [])
     ∷ [])
     ≡ 4 ∷ 4 ∷ 5 ∷ 6 ∷ 7 ∷ 7 ∷ []
-unfolding fileNumber headNumber walk readBytes readRules known kindsOf recordOf
+unfolding numbers
 refused-records = refl
 
--- the reader: past the end, at place 0 and inside a record
-read-anywhere : map (readAt (1 ∷ 6 ∷ 2 ∷ 2 ∷ 0 ∷ [])) (2 ∷ 5 ∷ 18446744073709551615 ∷ 0 ∷ 3 ∷ []) ≡ accepted (Give 0) 5 ∷ refused 4 ∷ refused 4 ∷ refused 6 ∷ refused 4 ∷ []
-unfolding readBytes readRules known kindsOf recordOf
+-- the reader: at a record, past the end, at place 0 and inside a record
+read-anywhere : readings (1 ∷ 6 ∷ 2 ∷ 2 ∷ 0 ∷ []) (2 ∷ 5 ∷ 18446744073709551615 ∷ 0 ∷ 3 ∷ [])
+    ≡ recordFound (Give 0) 5 ∷ recordRefused 4 ∷ recordRefused 4 ∷ recordRefused 6 ∷ recordRefused 4 ∷ []
+unfolding readings
 read-anywhere = refl
