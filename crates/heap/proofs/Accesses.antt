@@ -1,4 +1,5 @@
--- What a call may rely on of a pointer's referent, and the outcomes of the calls that go by it.
+-- What a call may rely on of a pointer's referent, and the outcomes of the calls that go by it. The proofs of `unchecked` cite these over the values of their
+-- places: what `locate` found, what `left_in` and `offset` gave, what was stored and answered.
 use Prim.Native.Nat.{ℕ, _+_, _-_, _*_, _/_, _^_, _≤_, _<_, min, max}
 use mathlib.Core.Path.{_≡_, refl, sym, _∙_, ap, ap₂, subst}
 use mathlib.Core.Bool.{Bool, true, false, cond, _||_}
@@ -7,10 +8,10 @@ use native.Mathlib.Nat.{add-mul, mul-div-cancel}
 use native.Mathlib.Omega.{arith}
 use borrow.Author.Tests.{leb-false, eqb-true, lt-ltb, le-ltb, not-false}
 use lib.Dec.{ltb, eqb}
-use lib.ListN.{replicate}
+use lib.ListN.{length, replicate}
 use lib.Pow.{pow-pos, pow-mono}
 use Rattle.common.specs.Refusals.{Refusal, _when_, first}
-use Rattle.common.specs.Bytes.{over, copied}
+use Rattle.common.specs.Bytes.{bigEndian, bytesOf, over, copied}
 use Rattle.blocks.specs.Blocks.{base, floor, Aligned, leftIn}
 use Rattle.blocks.specs.Pointers.{markBit, marked, address, sought}
 use Rattle.blocks.specs.Seeking.{fromZero}
@@ -22,10 +23,12 @@ use Rattle.heap.specs.Views.{View, referentOfPointer, leftFrom}
 use Rattle.heap.specs.Rules.{badWidth, dead, homeRules, argumentRules, stateRules}
 use Rattle.heap.specs.Effects.{value, stored}
 use Rattle.heap.specs.Heaps.{heapOf, heapView, entered, heapStep, outcome}
-use Rattle.heap.specs.Judging.{Sound, Ready, Holding, located, numberIn}
+use Rattle.heap.specs.Inner.{Sound, Ready, Holding, located, numberIn}
 use Rattle.heap.specs.Changes.{changeOf}
 use Rattle.heap.specs.declared.Call.{Call}
-use Rattle.heap.specs.declared.Call.the-variants.{Left, Copy, Fill}
+use Rattle.heap.specs.declared.Call.the-variants.{Read, Write, Left, Copy, Fill}
+use Rattle.heap.specs.declared.Answer.{Answer}
+use Rattle.heap.specs.declared.refusals.Located.{Located}
 use Rattle.heap.specs.declared.refusals.Located.the-variants.{Refused, Inside}
 use Rattle.common.proofs.Refusals.{condOf, first-stays, first-goes-on}
 use Rattle.heap.proofs.Settling.{answer}
@@ -36,7 +39,8 @@ use Rattle.heap.proofs.Homes.{located-number, located-refused, located-
 aligned-floor : (t m s e : ℕ) → e ≤ 16 → Aligned t m (record { start = s; order = e }) → floor e s ≡ s
 unfolding floor
 aligned-floor t m s e l g =
-    let x : s ≡ (2 ^ (16 - e) + g .index) * 2 ^ e = g .place ∙ ap (λ (y : ℕ). y + g .index * 2 ^ e) (pow-split e 16 l) ∙ sym (add-mul (2 ^ (16 - e)) (g .index) (2 ^ e)) in
+    let x : s ≡ (2 ^ (16 - e) + g .index) * 2 ^ e =
+    g .place ∙ ap (λ (y : ℕ). y + g .index * 2 ^ e) (pow-split e 16 l) ∙ sym (add-mul (2 ^ (16 - e)) (g .index) (2 ^ e)) in
     ap (λ (y : ℕ). y * 2 ^ e) (ap (λ (y : ℕ). y / 2 ^ e) x ∙ mul-div-cancel (2 ^ (16 - e) + g .index) (pow-pos e)) ∙ sym x
 
 address-low : (p : ℕ) → p < 2 ^ 32 → address p < 2 ^ 31
@@ -92,78 +96,106 @@ module _ (t m : ℕ) (a tab : List ℕ) (g : Sound t m a tab) where
         near = address-low p l;
       }
 
-module _ {t m s e p : ℕ} (x : Within t m s e p) where
-  pub left-asks : (e ≤ 16) × (s ≤ p) × (p < s + 2 ^ e) × (s < 2 ^ 31)
-  left-asks = (x .order, x .low, x .high, omega (arith, x .inside, x .top))
-
-  pub at-base : base ≤ p
-  at-base = omega (arith, x .above, x .low)
-
-  pub room : (k : ℕ) → k ≤ leftIn (Found s e) p → p - base + k ≤ 2 ^ m
-  room k l = omega (arith, x .above, x .low, x .inside, pow-pos m)
-
-pub narrow : (k : ℕ) → badWidth k ≡ false → k ≤ 4
-narrow k n = go (eqb k 1) (eqb k 2) refl refl (not-false _ n)
+-- a width that is one of the three
+pub narrow : {t m : ℕ} {c : Call} {a tab : List ℕ} → Ready t m c a tab → (k : ℕ) → condOf 11 (argumentRules m c) ≡ badWidth k → k ≤ 4
+narrow {t} {m} {c} {a} {tab} z k n = go (eqb k 1) (eqb k 2) refl refl (not-false _ (sym n ∙ argument-clear t m c a tab z 11))
   where
     go : (x y : Bool) → eqb k 1 ≡ x → eqb k 2 ≡ y → (x || (y || eqb k 4)) ≡ true → k ≤ 4
     go true y u v w = omega (arith, eqb-true k 1 u)
     go false true u v w = omega (arith, eqb-true k 2 v)
     go false false u v w = omega (arith, eqb-true k 4 w)
 
--- the outcomes of a call that goes by the referent of its pointer p first, and then by rules of its own
-module _ (t m : ℕ) (c : Call) (a tab : List ℕ) (z : Ready t m c a tab) where
+-- ---- a call that is ready, and goes by the referent of its pointer p first and then by rules of its own
+
+pub home-first : {t m : ℕ} {c : Call} {a tab : List ℕ} {s e : ℕ} → Ready t m c a tab → (p : ℕ) (own : List Refusal)
+    → let v = heapView t m (heapOf a tab) in
+    stateRules c v ≡ homeRules v p ++ own → located v p ≡ Inside s e → first (stateRules c v) ≡ first own
+home-first {t} {m} {c} {a} {tab} z p own q f =
+    let v : View = heapView t m (heapOf a tab) in ap first q ∙ first-goes-on (homeRules v p) own refl (located-inside v p f .0)
+
+-- p is plain, and leads to the block of order e at s
+pub record Led (t m : ℕ) (c : Call) (a tab : List ℕ) (p s e : ℕ) : Type 0 where
+  pub ready : Ready t m c a tab
+  pub found : located (heapView t m (heapOf a tab)) p ≡ Inside s e
+  pub within : Within t m s e p
+
+-- what `locate` finds by the table alone, l
+module _ {t m : ℕ} {c : Call} {a tab : List ℕ} {l : Located} (z : Ready t m c a tab) (p : ℕ) (found : l ≡ located (heapView t m (heapOf [] tab)) p) where
   abbrev v : View
   v = heapView t m (heapOf a tab)
 
-  module _ (p : ℕ) (own : List Refusal) (q : stateRules c v ≡ homeRules v p ++ own) where
-    pub home-refused : (k : ℕ) → located v p ≡ Refused k → outcome (answer k 0) a tab ≡ heapStep t m c (heapOf a tab)
-    home-refused k l =
-        let (e, n) = located-refused v p k l in
-        step-refused t m c a tab z k (sym (ap first q ∙ first-stays (homeRules v p) own (λ x. n (sym e ∙ x)) ∙ e)) n
+  -- a number refuses the call
+  pub led-refused : (own : List Refusal) → stateRules c v ≡ homeRules v p ++ own → {k : ℕ} → l ≡ Refused k → {r : Answer} → r ≡ answer k 0
+      → outcome r a tab ≡ heapStep t m c (heapOf a tab)
+  led-refused own q {k} is {r} e =
+      let (n, some) = located-refused v p k (sym found ∙ is) in
+      ap (λ (x : Answer). outcome x a tab) e
+      ∙ step-refused t m c a tab z k (sym (ap first q ∙ first-stays (homeRules v p) own (λ x. some (sym n ∙ x)) ∙ n)) some
 
-    pub home-first : {s e : ℕ} → located v p ≡ Inside s e → first (stateRules c v) ≡ first own
-    home-first l = ap first q ∙ first-goes-on (homeRules v p) own refl (located-inside v p l .0)
+  -- and a block holds p, where c takes plain pointers
+  pub led : (condOf 13 (argumentRules m c) ≡ false → marked p ≡ false) → {s e : ℕ} → l ≡ Inside s e → Led t m c a tab p s e
+  led plain {s} {e} is =
+      let f : located v p ≡ Inside s e = sym found ∙ is in
+      let x = plain-within t m a tab (z .sound) p s e (plain (argument-clear t m c a tab z 13)) (located-inside v p f .1) in
+      record { ready = z; found = f; within = x }
 
-  module _ (p : ℕ) {s e : ℕ} (l : located v p ≡ Inside s e) where
-    -- it takes plain pointers
-    pub spot : (condOf 13 (argumentRules m c) ≡ false → marked p ≡ false) → Within t m s e p
-    spot q = plain-within t m a tab (z .sound) p s e (q (argument-clear t m c a tab z 13)) (located-inside v p l .1)
+module _ {t m : ℕ} {c : Call} {a tab : List ℕ} {p s e : ℕ} (d : Led t m c a tab p s e) where
+  abbrev seen : View
+  seen = heapView t m (heapOf a tab)
 
-    -- it needs k bytes from p on
-    module _ (k : ℕ) (q : stateRules c v ≡ homeRules v p ++ (25 when ltb (leftFrom v p) k ∷ [])) where
-      own-first : (b : Bool) → ltb (leftIn (Found s e) p) k ≡ b → first (stateRules c v) ≡ cond b 25 0
-      own-first b h = home-first p _ q l ∙ rw (located-inside v p l .1, h)
+  pub left-asks : (e ≤ 16) × (s ≤ p) × (p < s + 2 ^ e) × (s < 2 ^ 31)
+  left-asks = let x = d .within in (x .order, x .low, x .high, omega (arith, x .inside, x .top))
 
-      pub short-refused : leftIn (Found s e) p < k → outcome (answer 25 0) a tab ≡ heapStep t m c (heapOf a tab)
-      short-refused h = step-refused t m c a tab z 25 (sym (own-first true (lt-ltb (leftIn (Found s e) p) k h))) (λ x. omega arith)
+  pub at-base : base ≤ p
+  at-base = omega (arith, d .within .above, d .within .low)
 
-      pub long-accepted : k ≤ leftIn (Found s e) p
-          → outcome (answer 0 (value c v a)) (stored c v a) (entered (changeOf c) v tab) ≡ heapStep t m c (heapOf a tab)
-      long-accepted h = step-accepted t m c a tab z (own-first false (le-ltb (leftIn (Found s e) p) k h))
+  -- k bytes from p on lie in the arena
+  pub room : {at : ℕ} → at ≡ p - base → (k : ℕ) → k ≤ leftIn (Found s e) p → at + k ≤ length a
+  room o k l = let x = d .within in omega (arith, x .above, x .low, x .inside, pow-pos m, d .ready .sound .size)
 
--- the calls that have no rules of their own
-module _ (t m : ℕ) (a tab : List ℕ) (p : ℕ) {s e : ℕ} (f : located (heapView t m (heapOf a tab)) p ≡ Inside s e) where
-  abbrev u : View
-  u = heapView t m (heapOf a tab)
+  pub left-is : {l : ℕ} → l ≡ leftIn (Found s e) p → l ≡ leftFrom seen p
+  left-is q = q ∙ ap (λ (h : Referent). leftIn h p) (sym (located-inside seen p (d .found) .1))
 
-  left-is : (l : ℕ) → l ≡ leftIn (Found s e) p → l ≡ leftFrom u p
-  left-is l q = q ∙ ap (λ (h : Referent). leftIn h p) (sym (located-inside u p f .1))
+  -- where c needs k bytes from p on
+  module _ (k : ℕ) (q : stateRules c seen ≡ homeRules seen p ++ (25 when ltb (leftFrom seen p) k ∷ [])) where
+    own-first : (b : Bool) → ltb (leftIn (Found s e) p) k ≡ b → first (stateRules c seen) ≡ cond b 25 0
+    own-first b h = home-first (d .ready) p _ q (d .found) ∙ rw (located-inside seen p (d .found) .1, h)
 
-  pub left-done : (l : ℕ) → Ready t m (Left p) a tab → l ≡ leftIn (Found s e) p → outcome (answer 0 l) a tab ≡ heapStep t m (Left p) (heapOf a tab)
+    pub short-refused : leftIn (Found s e) p < k → {r : Answer} → r ≡ answer 25 0 → outcome r a tab ≡ heapStep t m c (heapOf a tab)
+    short-refused h y =
+        rw y (step-refused t m c a tab (d .ready) 25 (sym (own-first true (lt-ltb (leftIn (Found s e) p) k h))) (λ x. omega arith))
+
+    pub long-accepted : k ≤ leftIn (Found s e) p
+        → outcome (answer 0 (value c seen a)) (stored c seen a) (entered (changeOf c) seen tab) ≡ heapStep t m c (heapOf a tab)
+    long-accepted h = step-accepted t m c a tab (d .ready) (own-first false (le-ltb (leftIn (Found s e) p) k h))
+
+-- The outcomes: l is what is left from p, `at` its place in the arena, and r the answer.
+module _ {t m p s e : ℕ} {a tab : List ℕ} where
+  pub left-done : Led t m (Left p) a tab p s e → {l : ℕ} → l ≡ leftIn (Found s e) p → {r : Answer} → r ≡ answer 0 l
+      → outcome r a tab ≡ heapStep t m (Left p) (heapOf a tab)
   unfolding stateRules value stored entered
-  left-done l z q =
-      ap (λ (x : ℕ). outcome (answer 0 x) a tab) (left-is l q) ∙ step-accepted t m (Left p) a tab z (home-first t m (Left p) a tab z p [] refl f)
+  left-done d q y = rw (y, left-is d q) (step-accepted t m (Left p) a tab (d .ready) (home-first (d .ready) p [] refl (d .found)))
 
-  module _ (v n l k : ℕ) (z : Ready t m (Fill p v n) a tab) (q : l ≡ leftIn (Found s e) p) (r : k ≡ min n l) where
-    pub fill-done : (b : List ℕ) → b ≡ over a (p - base) (replicate k v) → outcome (answer 0 k) b tab ≡ heapStep t m (Fill p v n) (heapOf a tab)
+  module _ {w : ℕ} {at : ℕ} (o : at ≡ p - base) (fits : w ≤ leftIn (Found s e) p) where
+    pub read-done : Led t m (Read p w) a tab p s e → {x : ℕ} → x ≡ bigEndian a at w → {r : Answer} → r ≡ answer 0 x
+        → outcome r a tab ≡ heapStep t m (Read p w) (heapOf a tab)
     unfolding stateRules value stored entered
-    fill-done b x =
-        ap (λ (x : List ℕ). outcome (answer 0 k) x tab) x
-        ∙ ap (λ (x : ℕ). outcome (answer 0 x) (over a (p - base) (replicate x v)) tab) (r ∙ ap (min n) (left-is l q))
-        ∙ step-accepted t m (Fill p v n) a tab z (home-first t m (Fill p v n) a tab z p [] refl f)
+    read-done d x y = rw (y, x, o) (long-accepted d w refl fits)
 
--- a copy, from y to p
-module _ (t m p y n : ℕ) (a tab : List ℕ) (z : Ready t m (Copy p y n) a tab) where
+    pub write-done : {v : ℕ} → Led t m (Write p w v) a tab p s e → {b : List ℕ} → b ≡ over a at (bytesOf w v) → {r : Answer} → r ≡ answer 0 0
+        → outcome r b tab ≡ heapStep t m (Write p w v) (heapOf a tab)
+    unfolding stateRules value stored entered
+    write-done d x y = rw (y, x, o) (long-accepted d w refl fits)
+
+  pub fill-done : {v n l k at : ℕ} → Led t m (Fill p v n) a tab p s e → l ≡ leftIn (Found s e) p → k ≡ min n l → at ≡ p - base
+      → {b : List ℕ} → b ≡ over a at (replicate k v) → {r : Answer} → r ≡ answer 0 k → outcome r b tab ≡ heapStep t m (Fill p v n) (heapOf a tab)
+  unfolding stateRules value stored entered
+  fill-done {v = v} {n = n} d q u o x y =
+      rw (y, x, o, u, left-is d q) (step-accepted t m (Fill p v n) a tab (d .ready) (home-first (d .ready) p [] refl (d .found)))
+
+-- ---- a copy, from y to p
+
+module _ {t m p y n : ℕ} {a tab : List ℕ} (z : Ready t m (Copy p y n) a tab) where
   abbrev x : View
   x = heapView t m (heapOf a tab)
 
@@ -181,19 +213,19 @@ module _ (t m p y n : ℕ) (a tab : List ℕ) (z : Ready t m (Copy p y n) a tab)
   numbers-first : first (stateRules (Copy p y n) x) ≡ max (numberIn (located x p)) (numberIn (located x y))
   numbers-first = both-first ∙ ap₂ max (sym (located-number x p)) (sym (located-number x y))
 
-  -- so it is refused where either is
-  pub both-refused : (k : ℕ) → k ≡ max (numberIn (located x p)) (numberIn (located x y)) → (v i : ℕ) → located x v ≡ Refused i
-      → numberIn (located x v) ≤ max (numberIn (located x p)) (numberIn (located x y)) → outcome (answer k 0) a tab ≡ heapStep t m (Copy p y n) (heapOf a tab)
-  both-refused k q v i l u =
-      let (e, o) = located-refused x v i l in
-      step-refused t m (Copy p y n) a tab z k (q ∙ sym numbers-first) (λ r. o (omega (arith, ap numberIn l)))
+  -- so it is refused where the pointer v, one of them, is
+  pub both-refused : {k : ℕ} → k ≡ max (numberIn (located x p)) (numberIn (located x y)) → (v i : ℕ) → located x v ≡ Refused i
+      → numberIn (located x v) ≤ max (numberIn (located x p)) (numberIn (located x y))
+      → {r : Answer} → r ≡ answer k 0 → outcome r a tab ≡ heapStep t m (Copy p y n) (heapOf a tab)
+  both-refused {k} q v i l u e =
+      let (_, o) = located-refused x v i l in
+      rw e (step-refused t m (Copy p y n) a tab z k (q ∙ sym numbers-first) (λ r. o (omega (arith, ap numberIn l))))
 
-  pub copy-done : {s e s2 e2 : ℕ} → located x p ≡ Inside s e → located x y ≡ Inside s2 e2 → (k : ℕ) (b : List ℕ)
-      → k ≡ min n (min (leftIn (Found s e) p) (leftIn (Found s2 e2) y)) → b ≡ copied a (p - base) a (y - base) k
-      → outcome (answer 0 k) b tab ≡ heapStep t m (Copy p y n) (heapOf a tab)
-  unfolding stateRules value stored entered
-  copy-done f g k b r u =
-      ap (λ (i : List ℕ). outcome (answer 0 k) i tab) u
-      ∙ ap (λ (i : ℕ). outcome (answer 0 i) (copied a (p - base) a (y - base) i) tab)
-      (r ∙ ap₂ (λ (i j : Referent). min n (min (leftIn i p) (leftIn j y))) (sym (located-inside x p f .1)) (sym (located-inside x y g .1)))
-      ∙ step-accepted t m (Copy p y n) a tab z (numbers-first ∙ rw (f, g))
+-- and else it stores as many bytes as both referents have left
+pub copy-done : {t m p y n : ℕ} {a tab : List ℕ} {s e s2 e2 k at from : ℕ} → Led t m (Copy p y n) a tab p s e → Led t m (Copy p y n) a tab y s2 e2
+    → k ≡ min n (min (leftIn (Found s e) p) (leftIn (Found s2 e2) y)) → at ≡ p - base → from ≡ y - base
+    → {b : List ℕ} → b ≡ copied a at a from k → {r : Answer} → r ≡ answer 0 k → outcome r b tab ≡ heapStep t m (Copy p y n) (heapOf a tab)
+unfolding stateRules value stored entered
+copy-done {t} {m} {p} {y} {n} {a} {tab} d f q o u x e =
+    let count = q ∙ ap₂ (λ (i j : ℕ). min n (min i j)) (left-is d refl) (left-is f refl) in
+    rw (e, x, o, u, count) (step-accepted t m (Copy p y n) a tab (d .ready) (numbers-first (d .ready) ∙ rw (d .found, f .found)))

@@ -9,7 +9,7 @@ use Rattle.blocks.specs.declared.Referent.{Referent}
 use Rattle.blocks.specs.declared.Referent.the-variants.{Missing, Found}
 use Rattle.heap.specs.Views.{View, referentOfPointer}
 use Rattle.heap.specs.Rules.{homeRules}
-use Rattle.heap.specs.Judging.{locatedBy, located, numberIn}
+use Rattle.heap.specs.Inner.{locatedBy, located, numberIn}
 use Rattle.heap.specs.declared.refusals.Located.{Located}
 use Rattle.heap.specs.declared.refusals.Located.the-variants.{Refused, Inside}
 use Rattle.common.proofs.Refusals.{clear}

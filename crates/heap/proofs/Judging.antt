@@ -19,9 +19,10 @@ use Rattle.blocks.specs.Orders.{smallestOrder, largestOrder, isArenaOrder, orde
 use Rattle.heap.specs.Views.{View, slotOrder}
 use Rattle.heap.specs.Rules.{argumentRules, stateRules, rules, addressRules}
 use Rattle.heap.specs.Effects.{value, stored, Outcome, settled}
-use Rattle.heap.specs.Heaps.{Heap, heapOf, wrongSizes, heapView, viewOf, entered, heapStep, heapCall, heapFresh, freshHeap, bit, checkStep, heapCheck, outcome}
+use Rattle.heap.specs.Heaps.{Heap, heapOf, wrongSizes, heapView, viewOf, entered, heapStep, heapCall, heapFresh, freshHeap}
+use Rattle.heap.specs.Heaps.{bit, checkStep, heapCheck, outcome}
 use Rattle.heap.specs.Changes.{changeOf}
-use Rattle.heap.specs.Judging.{heapOrder, beforeCall, Sound, Ready}
+use Rattle.heap.specs.Inner.{heapOrder, beforeCall, Sound, Ready}
 use Rattle.heap.specs.declared.Answer.{Answer}
 use Rattle.heap.specs.declared.Call.{Call}
 use Rattle.heap.specs.declared.Call.the-variants.{Get, Give, Step, Read, Write, Left, Copy, Fill}
@@ -139,13 +140,13 @@ ordered {t = t} {a = a} {tab = tab} {m = m} q = go (wrongSizes t (orderOf (lengt
         let s : Sized t a tab m = subst (Sized t a tab) (sym x) (fits-sized t a tab (orderOf (length a)) e) in
         record { wrong = λ z. absurd (omega (arith, s .low)); sized = λ n. s }
 
--- what `arguments` and `before_call` require
-module _ {t : ℕ} {a tab : List ℕ} {m : ℕ} (o : Ordered t a tab m) where
+-- what `arguments` and `before_call` require, by what `order_of` ensures
+module _ (a tab : List ℕ) {m : ℕ} (q : m ≡ heapOrder slotOrder a tab) where
   pub order-top : m ≤ 16
-  order-top = elim (decLt 0 m) [ yes p ↦ o .sized (λ z. omega arith) .high | no p ↦ omega arith ]
+  order-top = elim (decLt 0 m) [ yes p ↦ ordered q .sized (λ z. omega arith) .high | no p ↦ omega arith ]
 
-  pub order-slots : 1 ≤ t → t ≤ 5 → (m ≡ 0 → ⊥) → (1 ≤ t) × (t ≤ m) × (m ≤ 16) × (length tab ≡ 2 ^ (m - t))
-  order-slots l h n = let s = o .sized n in (l, omega (arith, s .low), s .high, s .slots)
+  pub order-slots : (m ≡ 0 → ⊥) → (1 ≤ slotOrder) × (slotOrder ≤ m) × (m ≤ 16) × (length tab ≡ 2 ^ (m - slotOrder))
+  order-slots n = let s = ordered q .sized n in (omega arith, omega (arith, s .low), s .high, s .slots)
 
 -- 8 by that order, and by the arena's
 order-sizes : {t : ℕ} {a tab : List ℕ} {m : ℕ} → Ordered t a tab m → wrongSizes t m (heapOf a tab) ≡ eqb m 0
@@ -175,9 +176,10 @@ pub record Judged (c : Call) (a tab : List ℕ) (number order : ℕ) : Type 0 wh
   pub ready : number ≡ 0 → Ready slotOrder order c a tab
 
 -- by what `order_of`, `arguments` and `before_call` ensure
-pub judge : {c : Call} {a tab : List ℕ} {m n k : ℕ} → Ordered slotOrder a tab m → n ≡ first (argumentRules m c) → k ≡ beforeCall slotOrder m n tab
-    → Judged c a tab k m
-judge {c = c} {a = a} {tab = tab} {m = m} {n = n} o x h =
+pub judge : {c : Call} {a tab : List ℕ} {m n k : ℕ} → m ≡ heapOrder slotOrder a tab → n ≡ first (argumentRules m c)
+    → k ≡ beforeCall slotOrder m n tab → Judged c a tab k m
+judge {c = c} {a = a} {tab = tab} {m = m} {n = n} q x h =
+    let o = ordered q in
     let w = heapView slotOrder m (heapOf a tab) in
     record {
       refusal = λ y.
@@ -228,13 +230,13 @@ fresh-heap m a tab z =
     let n : viewOf (heapOf a tab) .wrong-sizes ≡ false = rw (← s .same) z in
     rw n (ap₂ (λ (n k : ℕ). outcome (answer 0 0) (replicate n 0) (replicate k 0)) (s .size) (s .slots))
 
-module _ {a tab : List ℕ} {m : ℕ} (o : Ordered slotOrder a tab m) where
+module _ (a tab : List ℕ) {m : ℕ} (q : m ≡ heapOrder slotOrder a tab) where
   pub fresh-refused : m ≡ 0 → {r : Answer} → r ≡ answer 8 0 → outcome r a tab ≡ heapFresh (heapOf a tab)
   unfolding heapFresh
-  fresh-refused z e = rw (e, o .wrong z)
+  fresh-refused z e = rw (e, ordered q .wrong z)
 
   pub order-fits : (m ≡ 0 → ⊥) → viewOf (heapOf a tab) .wrong-sizes ≡ false
-  order-fits n = let s = o .sized n in rw (← s .same) (sizes-right slotOrder a tab s)
+  order-fits n = let s = ordered q .sized n in rw (← s .same) (sizes-right slotOrder a tab s)
 
   pub fresh-done : (m ≡ 0 → ⊥) → {r : Answer} {a′ tab′ : List ℕ} → r ≡ answer 0 0
       → a′ ≡ over a 0 (replicate (length a) 0) → tab′ ≡ over tab 0 (replicate (length tab) 0) → outcome r a′ tab′ ≡ heapFresh (heapOf a tab)

@@ -10,7 +10,7 @@ use Rattle.blocks.specs.Orders.{smallestOrder, orderOf}
 use Rattle.blocks.proofs.Floors.{pow-quotient}
 use Rattle.blocks.proofs.Orders.{order-sound}
 use Rattle.heap.specs.Heaps.{heapOf, wrongSizes}
-use Rattle.heap.specs.Judging.{heapOrder}
+use Rattle.heap.specs.Inner.{heapOrder}
 use Rattle.heap.proofs.Judging.{Sized, fits-sized, sizes-right, ordered}
 
 module _ (t : ℕ) (a tab : List ℕ) (low : t ≤ 5) where

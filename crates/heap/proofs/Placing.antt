@@ -17,7 +17,6 @@ use Rattle.blocks.specs.Orders.{neededOrder}
 use Rattle.blocks.specs.Placing.{placeIn}
 use Rattle.blocks.specs.declared.Place.{Place}
 use Rattle.blocks.specs.declared.Place.the-variants.{At, Nothing}
-use Rattle.blocks.specs.declared.Referent.{Referent}
 use Rattle.blocks.specs.declared.Referent.the-variants.{Found}
 use Rattle.common.proofs.Booleans.{or-false-right}
 use Rattle.blocks.proofs.Floors.{pow-split}
@@ -28,12 +27,12 @@ use Rattle.heap.specs.Views.{View, referentOfPointer, neededFor, placeFo
 use Rattle.heap.specs.Rules.{not-start, argumentRules, stateRules}
 use Rattle.heap.specs.Effects.{value, stored, cleared}
 use Rattle.heap.specs.Heaps.{heapOf, heapView, stamped, entered, heapStep, outcome}
-use Rattle.heap.specs.Judging.{Ready, located}
+use Rattle.heap.specs.Inner.{Ready}
+use Rattle.heap.specs.declared.Answer.{Answer}
 use Rattle.heap.specs.declared.Call.the-variants.{Get, Give}
-use Rattle.heap.specs.declared.refusals.Located.the-variants.{Inside}
 use Rattle.heap.proofs.Settling.{answer}
 use Rattle.heap.proofs.Judging.{argument-clear, step-refused, step-accepted}
-use Rattle.heap.proofs.Accesses.{Within, home-first}
+use Rattle.heap.proofs.Accesses.{Led, home-first}
 use Rattle.heap.proofs.Homes.{located-inside}
 
 -- Of a get that is ready: the order that it needs, and the place for it.
@@ -91,30 +90,32 @@ module _ (t m n : ℕ) (a tab : List ℕ) (z : Ready t m (Get n) a tab) (e : ℕ
         let xm : x ≡ startFor n v = xe ∙ sym (ap (placeAddress t) placed) in
         rw (xm, am, tm) (step-accepted t m (Get n) a tab z (ap (λ (y : Place). first (21 when noPlace y ∷ [])) placed))
 
--- Of a give that is ready, the block that p refers to.
-module _ (t m p : ℕ) (a tab : List ℕ) (z : Ready t m (Give p) a tab) {s e : ℕ} (l : located (heapView t m (heapOf a tab)) p ≡ Inside s e) where
+-- Of a give: the block of order e at s, to which p leads.
+module _ {t m p : ℕ} {a tab : List ℕ} {s e : ℕ} (d : Led t m (Give p) a tab p s e) where
   abbrev u : View
   u = heapView t m (heapOf a tab)
 
   abbrev f : referentOfPointer u p ≡ Found s e
-  f = located-inside u p l .1
+  f = located-inside u p (d .found) .1
 
   own-first : (b : Bool) → eqb s p ≡ b → first (stateRules (Give p) u) ≡ cond (not b) 23 0
   unfolding stateRules
-  own-first b h = home-first t m (Give p) a tab z p (23 when not-start (referentOfPointer u p) p ∷ []) refl l ∙ rw (f, h)
+  own-first b h = home-first (d .ready) p (23 when not-start (referentOfPointer u p) p ∷ []) refl (d .found) ∙ rw (f, h)
 
-  pub give-inside : (s ≡ p → ⊥) → outcome (answer 23 0) a tab ≡ heapStep t m (Give p) (heapOf a tab)
-  give-inside n = step-refused t m (Give p) a tab z 23 (sym (own-first false (ne-eqb s p n))) (λ x. omega arith)
+  pub give-inside : (s ≡ p → ⊥) → {r : Answer} → r ≡ answer 23 0 → outcome r a tab ≡ heapStep t m (Give p) (heapOf a tab)
+  give-inside n y = rw y (step-refused t m (Give p) a tab (d .ready) 23 (sym (own-first false (ne-eqb s p n))) (λ x. omega arith))
 
-  pub give-done : s ≡ p → (tab′ : List ℕ) → tab′ ≡ over tab ((p - base) / 2 ^ t) (replicate (2 ^ (e - t)) 0)
-      → outcome (answer 0 0) a tab′ ≡ heapStep t m (Give p) (heapOf a tab)
-  unfolding value stored entered
-  give-done q tab′ te =
-      let tm : tab′ ≡ stamped t tab p (orderIn (referentOfPointer u p)) 0 = te ∙ sym (ap (λ (r : Referent). stamped t tab p (orderIn r) 0) f) in
-      rw tm (step-accepted t m (Give p) a tab z (own-first true (eq-eqb s p q)))
+  -- `at` is p's place in the arena, k how many slots the block has
+  module _ (q : s ≡ p) {at k : ℕ} (o : at ≡ p - base) (c : k ≡ 2 ^ (e - t)) where
+    pub give-slots : at / 2 ^ t + k ≤ length tab
+    give-slots =
+        let b = slots-of t m (record { start = s; order = e }) (d .within .aligned) in
+        let i : slotOf t p ≡ b .first = ap (slotOf t) (sym q ∙ b .start) ∙ slot-start t (b .first) in
+        omega (arith, b .within, d .ready .sound .slots, ap (λ (x : ℕ). x / 2 ^ t) o)
 
-  pub give-slots : Within t m s e p → s ≡ p → (p - base) / 2 ^ t + 2 ^ (e - t) ≤ length tab
-  give-slots w q =
-      let b = slots-of t m (record { start = s; order = e }) (w .aligned) in
-      let i : slotOf t p ≡ b .first = ap (slotOf t) (sym q ∙ b .start) ∙ slot-start t (b .first) in
-      omega (arith, b .within, z .sound .slots)
+    pub give-done : {tab′ : List ℕ} → tab′ ≡ over tab (at / 2 ^ t) (replicate k 0) → {r : Answer} → r ≡ answer 0 0
+        → outcome r a tab′ ≡ heapStep t m (Give p) (heapOf a tab)
+    unfolding value stored entered
+    give-done te y =
+        let tm : over tab (at / 2 ^ t) (replicate k 0) ≡ stamped t tab p (orderIn (referentOfPointer u p)) 0 = rw (o, c, f) in
+        rw (y, te, tm) (step-accepted t m (Give p) a tab (d .ready) (own-first true (eq-eqb s p q)))

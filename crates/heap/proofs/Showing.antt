@@ -16,7 +16,7 @@ use Rattle.heap.specs.Views.{slotOrder, referentOfPointer, leftFrom}
 use Rattle.heap.specs.Rules.{argumentRules, stateRules, rules}
 use Rattle.heap.specs.Effects.{value}
 use Rattle.heap.specs.Heaps.{Heap, heapOf, viewOf, heapStep, heapCall, pointerNumber, shown, shownByLeft, shownFrom, outcome}
-use Rattle.heap.specs.Judging.{Ready}
+use Rattle.heap.specs.Inner.{Ready}
 use Rattle.heap.specs.declared.Answer.{Answer}
 use Rattle.heap.specs.declared.Call.the-variants.{Left}
 use Rattle.common.proofs.Refusals.{clear}
@@ -26,7 +26,7 @@ use Rattle.heap.proofs.Accesses.{plain-within}
 
 module _ (p : ℕ) (h : Heap) where
   -- show's number is left's
-  pub left-number : heapCall (Left p) h .answer .number ≡ pointerNumber h p
+  left-number : heapCall (Left p) h .answer .number ≡ pointerNumber h p
   unfolding heapCall heapStep
   left-number = settled-number (first (rules (Left p) (viewOf h))) _ _ _ ∙ ap first (sym (address-left p (viewOf h)))
 
@@ -35,7 +35,7 @@ module _ (p : ℕ) (h : Heap) where
   left-value z = settled-value (first (rules (Left p) (viewOf h))) _ _ _ (ap first (sym (address-left p (viewOf h))) ∙ z)
 
   -- and its part has as many bytes as left gives
-  pub shown-by-left : shown p h ≡ shownByLeft p h
+  shown-by-left : shown p h ≡ shownByLeft p h
   unfolding shown shownByLeft
   shown-by-left = rw left-number (go (eqb (pointerNumber h p) 0) refl)
     where
@@ -49,7 +49,7 @@ module _ (p : ℕ) (a tab : List ℕ) (r : Answer) (e : outcome r a tab ≡ heap
   abbrev h : Heap
   h = heapOf a tab
 
-  number-left : r .number ≡ pointerNumber h p
+  pub number-left : r .number ≡ pointerNumber h p
   number-left = ap (λ x. x .answer .number) e ∙ left-number p h
 
   module _ (z : r .number ≡ 0) where
@@ -66,7 +66,8 @@ module _ (p : ℕ) (a tab : List ℕ) (r : Answer) (e : outcome r a tab ≡ heap
         go : (f : Referent) → referentOfPointer (viewOf h) p ≡ f → missing f ≡ false → (base ≤ p) × (p - base + r .value ≤ length a)
         go Missing f n = absurd (false≢true (sym n))
         go (Found s k) f n =
-            let w = plain-within slotOrder (orderOf (length a)) a tab (y .0 .sound) p s k (argument-clear slotOrder (orderOf (length a)) (Left p) a tab (y .0) 13) f in
+            let m : ℕ = orderOf (length a) in
+            let w = plain-within slotOrder m a tab (y .0 .sound) p s k (argument-clear slotOrder m (Left p) a tab (y .0) 13) f in
             let l : r .value ≡ s + 2 ^ k - p = value-left ∙ ap (λ (x : Referent). leftIn x p) f in
             (omega (arith, w .above, w .low), omega (arith, w .above, w .low, w .high, w .inside, y .0 .sound .size))
 
@@ -78,6 +79,15 @@ module _ (p : ℕ) (a tab : List ℕ) (r : Answer) (e : outcome r a tab ≡ heap
     unfolding shownFrom
     shown-place = rw (eq-eqb (pointerNumber h p) 0 (sym number-left ∙ z))
 
+    -- what show ensures of this part, in an arena that begins at the byte k of the memory block b
+    pub shown-accepted : (b k : ℕ) → let part = take (p - base + r .value - (p - base)) (drop (p - base) a) in
+        (part ≡ shown p h) × ((part ≡ shownByLeft p h) × _≡_ {A = ℕ × ℕ} (b, p - base + k) (b, k + shownFrom p h))
+    shown-accepted b k =
+        let l : p - base + r .value - (p - base) ≡ r .value = omega arith in
+        let q : p - base + k ≡ k + shownFrom p h = omega (arith, shown-place) in
+        let w = ap (λ (n : ℕ). take n (drop (p - base) a)) l ∙ shown-part in
+        (w, (w ∙ shown-by-left p h, ap (λ (x : ℕ). (b, x)) q))
+
   module _ (n : r .number ≡ 0 → ⊥) where
     pub shown-empty : [] ≡ shown p h
     unfolding shown
@@ -86,3 +96,8 @@ module _ (p : ℕ) (a tab : List ℕ) (r : Answer) (e : outcome r a tab ≡ heap
     pub shown-nowhere : 0 ≡ shownFrom p h
     unfolding shownFrom
     shown-nowhere = rw (ne-eqb (pointerNumber h p) 0 (λ x. n (number-left ∙ x)))
+
+    pub shown-refused : (b k : ℕ) → ([] ≡ shown p h) × (([] ≡ shownByLeft p h) × _≡_ {A = ℕ × ℕ} (b, 0 + k) (b, k + shownFrom p h))
+    shown-refused b k =
+        let q : 0 + k ≡ k + shownFrom p h = omega (arith, shown-nowhere) in
+        (shown-empty, (shown-empty ∙ shown-by-left p h, ap (λ (x : ℕ). (b, x)) q))

@@ -23,9 +23,10 @@ use Rattle.heap.specs.Views.{View, referentOfPointer}
 use Rattle.heap.specs.Rules.{homeRules, beyond, stateRules, addressRules}
 use Rattle.heap.specs.Effects.{value, stored, Outcome, settled}
 use Rattle.heap.specs.Heaps.{Heap, heapOf, heapView, insideByCheck, entered, heapStep, bit, checkStep, outcome}
-use Rattle.heap.specs.Judging.{Sound, Ready, Holding, steppedIn, located}
+use Rattle.heap.specs.Inner.{Sound, Ready, Holding, steppedIn, located}
 use Rattle.heap.specs.declared.Answer.{Answer}
 use Rattle.heap.specs.declared.Call.the-variants.{Step}
+use Rattle.heap.specs.declared.refusals.Located.{Located}
 use Rattle.heap.specs.declared.refusals.Located.the-variants.{Refused, Inside}
 use Rattle.heap.proofs.Settling.{answer, settled-refused}
 use Rattle.heap.proofs.Judging.{ready-first, sound-sized, sizes-right}
@@ -138,7 +139,7 @@ module _ (t m : ℕ) (a tab : List ℕ) (p i s e : ℕ) (f : referentAt (referen
   inside-is = rw (f, sought-exact (referentIn t tab) (sought t p) s e f)
 
 -- and is led there by no refusal
-module _ (t m : ℕ) (a tab : List ℕ) (p i : ℕ) {s e : ℕ} (l : located (heapView t m (heapOf a tab)) p ≡ Inside s e) where
+module _ {t m : ℕ} {a tab : List ℕ} {p i s e : ℕ} (g : Ready t m (Step p i) a tab) (l : located (heapView t m (heapOf a tab)) p ≡ Inside s e) where
   abbrev v : View
   v = heapView t m (heapOf a tab)
 
@@ -154,13 +155,12 @@ module _ (t m : ℕ) (a tab : List ℕ) (p i : ℕ) {s e : ℕ} (l : located (he
   own-first : first (24 when beyond v p i ∷ []) ≡ cond (not (b || inReach t (Found s e) x)) 24 0
   own-first = ap₂ (λ (c : Bool) (r : Referent). cond (not (c || inReach t r x)) 24 0) (inside-is t m a tab p i s e f) f
 
-  pub step-found : Ready t m (Step p i) a tab
-      → outcome (steppedIn t s e (fromZero (sought t p)) (address p) i) a tab ≡ heapStep t m (Step p i) (heapOf a tab)
+  by-steps : outcome (steppedIn t s e (fromZero (sought t p)) (address p) i) a tab ≡ heapStep t m (Step p i) (heapOf a tab)
   unfolding steppedIn heapStep value stored entered stateRules
-  step-found g =
+  by-steps =
       cases b (inReach t (Found s e) x)
       ∙ ap₂ (λ (k v : ℕ). settled k (heapOf a tab) v (heapOf a tab))
-      (sym (ready-first t m (Step p i) a tab g ∙ home-first t m (Step p i) a tab g p (24 when beyond v p i ∷ []) refl l ∙ own-first))
+      (sym (ready-first t m (Step p i) a tab g ∙ home-first g p (24 when beyond v p i ∷ []) refl l ∙ own-first))
       (ap (λ (c : Bool). cond c (natAbs x) (markBit + natAbs x)) (sym (inside-is t m a tab p i s e f)))
     where
       cases : (c r : Bool)
@@ -170,17 +170,20 @@ module _ (t m : ℕ) (a tab : List ℕ) (p i : ℕ) {s e : ℕ} (l : located (he
       cases false true = refl
       cases false false = refl
 
--- the check, of a plain address in a heap that is sound
-module _ (t m : ℕ) (a tab : List ℕ) (p i : ℕ) (g : Sound t m a tab) (n : marked p ≡ false) where
+  -- what `stepped` answers, with h where p's referent is sought and q the address that is stepped from
+  pub step-done : {h q : ℕ} → h ≡ fromZero (sought t p) → q ≡ address p → {r : Answer} → r ≡ steppedIn t s e h q i
+      → outcome r a tab ≡ heapStep t m (Step p i) (heapOf a tab)
+  step-done u w y = rw (y, u, w) by-steps
+
+-- the check, of a plain address in a heap that is sound; `locate` finds l
+module _ {t m : ℕ} {a tab : List ℕ} (g : Sound t m a tab) (p i : ℕ) (n : marked p ≡ false) {l : Located}
+    (found : l ≡ located (heapView t m (heapOf [] tab)) p) where
   abbrev y : View
   y = heapView t m (heapOf a tab)
 
   -- the answer where the first refusal is k and the step stays inside as b says
   abbrev told : ℕ → Bool → Answer
   told k b = settled k (heapOf a tab) (bit b) (heapOf a tab) .answer
-
-  pub check-order : {s e : ℕ} → located y p ≡ Inside s e → e < 32
-  check-order l = omega (arith, found-within t m a tab g p _ _ (located-inside y p l .1) .order)
 
   address-first : first (addressRules y p) ≡ first (homeRules y p)
   unfolding addressRules
@@ -190,16 +193,19 @@ module _ (t m : ℕ) (a tab : List ℕ) (p i : ℕ) (g : Sound t m a tab) (n : m
   unfolding checkStep
   check-is = ap (λ (k : ℕ). told k (y .inside p i)) (sym address-first)
 
-  pub check-missing : (k : ℕ) → located y p ≡ Refused k → answer k 0 ≡ checkStep t m p i (heapOf a tab)
-  check-missing k l =
-      let (e, w) = located-refused y p k l in
-      ap (λ (o : Outcome Heap). o .answer) (settled-refused k (heapOf a tab) (bit (y .inside p i)) (heapOf a tab) w)
+  pub check-missing : {k : ℕ} → l ≡ Refused k → {r : Answer} → r ≡ answer k 0 → r ≡ checkStep t m p i (heapOf a tab)
+  check-missing {k} is u =
+      let (e, w) = located-refused y p k (sym found ∙ is) in
+      u ∙ ap (λ (o : Outcome Heap). o .answer) (settled-refused k (heapOf a tab) (bit (y .inside p i)) (heapOf a tab) w)
       ∙ ap (λ (j : ℕ). told j (y .inside p i)) (sym e) ∙ check-is
 
-  pub check-found : {s e : ℕ} → located y p ≡ Inside s e → (b : Bool) → b ≡ checkBits e p (wrappedSum p i)
-      → answer 0 (bit b) ≡ checkStep t m p i (heapOf a tab)
-  unfolding sought
-  check-found {s} {e} l b q =
-      let (k, f) = located-inside y p l in
-      let h : checkBits e (fromZero (sought t p)) (wrappedSum (address p) i) ≡ checkBits e p (wrappedSum p i) = rw n in
-      ap₂ told (sym k) (q ∙ sym h ∙ sym (inside-is t m a tab p i s e f)) ∙ check-is
+  module _ {s e : ℕ} (is : l ≡ Inside s e) where
+    pub check-order : e < 32
+    check-order = omega (arith, found-within t m a tab g p _ _ (located-inside y p (sym found ∙ is) .1) .order)
+
+    pub check-found : {b : Bool} → b ≡ checkBits e p (wrappedSum p i) → {r : Answer} → r ≡ answer 0 (bit b) → r ≡ checkStep t m p i (heapOf a tab)
+    unfolding sought
+    check-found q u =
+        let (k, f) = located-inside y p (sym found ∙ is) in
+        let h : checkBits e (fromZero (sought t p)) (wrappedSum (address p) i) ≡ checkBits e p (wrappedSum p i) = rw n in
+        u ∙ ap₂ told (sym k) (q ∙ sym h ∙ sym (inside-is t m a tab p i s e f)) ∙ check-is

@@ -3,7 +3,7 @@ pub mod Rules
 pub mod Changes
 pub mod Effects
 pub mod Heaps
-pub mod Judging
+pub mod Inner
 pub mod Answers
 pub mod Operations
 pub mod Registers

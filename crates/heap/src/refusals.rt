@@ -11,7 +11,7 @@ ghost use Rattle.common.specs.Refusals.{_when_, first};
 ghost use Rattle.blocks.specs.Tables.{damagedBy};
 ghost use Rattle.heap.specs.Rules.{badWidth, plainRules, argumentRules};
 ghost use Rattle.heap.specs.Heaps.{heapOf, heapView};
-ghost use Rattle.heap.specs.Judging.{beforeCall, located, numberIn};
+ghost use Rattle.heap.specs.Inner.{beforeCall, located, numberIn};
 
 fn bad_width(w: u8) -> bool
     ensures { λ b. ⌜ b ≡ badWidth w ⌝ }

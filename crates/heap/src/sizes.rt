@@ -1,7 +1,7 @@
 // The lengths of a heap's two buffers: what 8 is judged by, in every call, in a run and in a replay.
 ghost use mathlib.Core.Path.{_≡_};
 ghost use Prim.Native.Nat.{_≤_};
-ghost use Rattle.heap.specs.Judging.{heapOrder};
+ghost use Rattle.heap.specs.Inner.{heapOrder};
 
 // The order of a heap with these buffers and slots of 2^t bytes, or 0 where the lengths don't fit each other or are none of a heap.
 pub fn order_of(arena: &[u8], table: &[u8], t: u32) -> u32

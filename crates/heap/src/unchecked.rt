@@ -17,7 +17,7 @@ ghost use mathlib.Core.Bool.{false};
 ghost use Rattle.blocks.specs.Pointers.{marked};
 ghost use Rattle.blocks.specs.Blocks.{base, leftIn};
 ghost use Rattle.heap.specs.Heaps.{heapOf, outcome, heapStep, checkStep};
-ghost use Rattle.heap.specs.Judging.{Sound, Ready, Holding, steppedIn};
+ghost use Rattle.heap.specs.Inner.{Sound, Ready, Holding, steppedIn};
 
 fn least(a: u32, b: u32) -> u32
     ensures { λ r. ⌜ r ≡ min a b ⌝ }

@@ -14,12 +14,12 @@ use Rattle.blocks.specs.Sets.{tableOf}
 use Rattle.heap.specs.Views.{slotOrder}
 use Rattle.heap.specs.Effects.{Outcome}
 use Rattle.heap.specs.Heaps.{Heap, heapOf, viewOf, heapStep, heapFresh, freshHeap, outcome}
-use Rattle.heap.specs.Judging.{Sound}
+use Rattle.heap.specs.Inner.{heapOrder, Sound}
 use Rattle.heap.specs.Answers.{answerLength, answerBytes, answersBytes}
 use Rattle.heap.specs.declared.Answer.{Answer}
 use Rattle.heap.specs.declared.Call.{Call}
 use Rattle.common.proofs.Refusals.{clear}
-use Rattle.heap.proofs.Judging.{Sized, Ordered}
+use Rattle.heap.proofs.Judging.{Sized, ordered}
 use Rattle.heap.proofs.AnswerBytes.{answers-next, answers-none}
 use Rattle.history.specs.Ledgers.{Ledger, ledgerStep, emptyLedger}
 use Rattle.history.specs.Runs.{run}
@@ -41,9 +41,10 @@ pub record Playable (m : ℕ) (calls a tab out : List ℕ) : Type 0 where
   pub sized : Sized slotOrder a tab m
   pub room : answerLength * callCount calls ≤ length out
 
-pub playable : (m : ℕ) (calls a tab out : List ℕ) → Ordered slotOrder a tab m → first (replayRules calls (heapOf a tab) out) ≡ 0
+pub playable : (m : ℕ) (calls a tab out : List ℕ) → m ≡ heapOrder slotOrder a tab → first (replayRules calls (heapOf a tab) out) ≡ 0
     → Playable m calls a tab out
-playable m calls a tab out o z =
+playable m calls a tab out q z =
+    let o = ordered q in
     let c = clear (replayRules calls (heapOf a tab) out) refl z in
     record {
       sized = o .sized (λ e. false≢true (sym (c 8) ∙ o .wrong e));

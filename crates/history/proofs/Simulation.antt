@@ -26,7 +26,7 @@ use Rattle.heap.specs.Rules.{rules, argumentRules, stateRules, not-start}
 use Rattle.heap.specs.Effects.{value, stored, Outcome, settled, judged}
 use Rattle.heap.specs.Heaps.{Heap, heapOf, insideByCheck, heapView, stamped, entered, heapStep}
 use Rattle.heap.specs.Changes.{Change, changeOf}
-use Rattle.heap.specs.Judging.{Sound}
+use Rattle.heap.specs.Inner.{Sound}
 use Rattle.heap.specs.declared.Call.{Call}
 use Rattle.heap.specs.declared.Call.the-variants.{Give}
 use Rattle.common.proofs.Refusals.{clear}

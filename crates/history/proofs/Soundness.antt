@@ -17,7 +17,7 @@ use Rattle.blocks.proofs.Sets.{none-missing}
 use Rattle.blocks.proofs.Slots.{block}
 use Rattle.heap.specs.Views.{slotOrder}
 use Rattle.heap.specs.Heaps.{Heap, heapView, heapStep, heapCall, freshIn}
-use Rattle.heap.specs.Judging.{Sound}
+use Rattle.heap.specs.Inner.{Sound}
 use Rattle.heap.specs.declared.Call.{Call}
 use Rattle.heap.proofs.Judging.{sound-sized}
 use Rattle.history.specs.Ledgers.{Ledger, ledgerView, emptyLedger}

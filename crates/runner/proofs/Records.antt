@@ -20,7 +20,7 @@ use Rattle.takes.specs.declared.Record.the-variants.{Write as write, Left as le
 use Rattle.heap.specs.Effects.{Outcome}
 use Rattle.heap.specs.Views.{slotOrder}
 use Rattle.heap.specs.Heaps.{Heap, heapOf, heapStep, heapCall, outcome}
-use Rattle.heap.specs.Judging.{Sound}
+use Rattle.heap.specs.Inner.{Sound}
 use Rattle.heap.specs.Answers.{answerLength, answerBytes}
 use Rattle.heap.specs.declared.Answer.{Answer}
 use Rattle.heap.specs.declared.Call.{Call}

@@ -13,7 +13,7 @@ use Rattle.takes.proofs.RoundTrips.{read-low}
 use Rattle.heap.specs.Views.{slotOrder}
 use Rattle.heap.specs.Effects.{Outcome}
 use Rattle.heap.specs.Heaps.{Heap, heapOf, heapFresh, freshHeap, outcome}
-use Rattle.heap.specs.Judging.{Sound}
+use Rattle.heap.specs.Inner.{Sound}
 use Rattle.heap.specs.Answers.{answerLength}
 use Rattle.heap.specs.declared.Answer.{Answer}
 use Rattle.heap.proofs.Judging.{Sized, fits-sized, fresh-heap}

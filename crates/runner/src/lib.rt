@@ -12,7 +12,7 @@ ghost use Rattle.common.specs.Bytes.{over};
 ghost use Rattle.heap.specs.Views.{slotOrder};
 ghost use Rattle.heap.specs.Heaps.{heapOf, heapStep, outcome};
 ghost use Rattle.heap.specs.Answers.{answerLength, answerBytes};
-ghost use Rattle.heap.specs.Judging.{Sound};
+ghost use Rattle.heap.specs.Inner.{Sound};
 ghost use Rattle.takes.specs.Files.{recordsOf};
 ghost use Rattle.heap.specs.Registers.{registersAtFirst};
 ghost use Rattle.runner.specs.Runs.{screenful, runBy, runOf, panelOf};

@@ -1,5 +1,5 @@
--- `check` meets its contract: it is judged as left is (`address-left`), test by test; refused, its number is the first of its own list, and else it is
--- `unchecked::check` of a plain address.
+-- The check is judged as left is (`address-left`), test by test: refused, its number is the first of its own list (`check-refused`), and else it is
+-- `unchecked::check` of a plain address (`judged-check`).
 use Prim.Native.Nat.{ℕ}
 use mathlib.Core.Bool.{Bool, true, false, cond}
 use mathlib.Core.Path.{_≡_, refl, sym, ap, _∙_}
@@ -11,9 +11,9 @@ use Rattle.common.specs.Refusals.{first}
 use Rattle.blocks.specs.Pointers.{marked}
 use Rattle.heap.specs.Views.{slotOrder}
 use Rattle.heap.specs.Rules.{argumentRules}
-use Rattle.heap.specs.Judging.{beforeCall}
+use Rattle.heap.specs.Inner.{beforeCall}
 use Rattle.heap.specs.declared.Call.the-variants.{Left}
-use Rattle.heap.proofs.Judging.{Ordered, ordered, order-slots, Judged, judge, check-refused, judged-check}
+use Rattle.heap.proofs.Judging.{order-slots, Judged, judge, check-refused, judged-check}
 use Rattle.heap.proofs.check.Statement.{statement}
 use Rattle.heap.proofs.check.Tie as tie
 
@@ -30,13 +30,10 @@ module _ (c : tie.After-order-of) where
   abbrev order : ℕ
   order = c .order-of .result
 
-  known : Ordered slotOrder (start .args .arena .now) (start .args .table .now) order
-  known = ordered (c .order-of .ensures)
-
   -- judged, with n the arguments' refusal and k the call's
   judged : (n k : ℕ) → n ≡ first (argumentRules order (Left (start .args .p))) → k ≡ beforeCall slotOrder order n (start .args .table .now)
       → Judged (Left (start .args .p)) (start .args .arena .now) (start .args .table .now) k order
-  judged n k x h = judge known x h
+  judged n k x h = judge (c .order-of .ensures) x h
 
 -- once the pointer is judged
 module _ (c : tie.After-is-marked) where
@@ -82,7 +79,7 @@ returns-2 c =
     check-refused (start o .args .i) thirteen (λ z. omega arith) (c .refused2 .ensures)
 
 damaged-requires : tie.Need-damaged-requires
-damaged-requires c κs = order-slots (known (sized (c .before))) (omega arith) (omega arith) (c .before .before .if1 .left)
+damaged-requires c κs = order-slots _ _ (sized (c .before) .order-of .ensures) (c .before .before .if1 .left)
 
 refused-requires-3 : tie.Need-refused-requires-3
 refused-requires-3 c κs = search needs

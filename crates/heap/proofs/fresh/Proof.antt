@@ -1,17 +1,8 @@
--- `fresh` meets its contract: what `order_of` ensures says whether the lengths fit, and where they do the two fills leave all zero.
+-- What `order_of` ensures says whether the lengths fit (`fresh-refused`), and where they do the two fills leave all zero (`fresh-done`).
 use borrow.Author.Needs.{needs}
-use Rattle.heap.specs.Views.{slotOrder}
-use Rattle.heap.proofs.Judging.{Ordered, ordered, fresh-refused, fresh-done}
+use Rattle.heap.proofs.Judging.{fresh-refused, fresh-done}
 use Rattle.heap.proofs.fresh.Statement.{statement}
 use Rattle.heap.proofs.fresh.Tie as tie
-
--- once the order is known
-module _ (c : tie.After-order-of) where
-  abbrev start : tie.Start
-  start = c .before .before .before .before .before
-
-  order : Ordered slotOrder (start .args .arena .now) (start .args .table .now) (c .order-of .result)
-  order = ordered (c .order-of .ensures)
 
 order-of-requires : tie.Need-order-of-requires
 order-of-requires c κs = search needs
@@ -26,7 +17,7 @@ same-length-2 : tie.Need-same-length-2
 same-length-2 c = search needs
 
 returns : tie.Need-returns
-returns c = fresh-refused (order (c .before .before)) (c .before .if1 .taken) (c .refused .ensures)
+returns c = fresh-refused _ _ (c .before .before .order-of .ensures) (c .before .if1 .taken) (c .refused .ensures)
 
 fill-requires : tie.Need-fill-requires
 fill-requires c κs = search needs
@@ -48,7 +39,7 @@ returns-2 c =
     let table : tie.After-fill2 = c .before .before .before in
     let arena : tie.After-fill = table .before .before .before .before in
     let sized : tie.Else1 = arena .before .before in
-    fresh-done (order (sized .before)) (sized .if1 .left) (c .accepted .ensures) (arena .fill .ensures) (table .fill2 .ensures)
+    fresh-done _ _ (sized .before .order-of .ensures) (sized .if1 .left) (c .accepted .ensures) (arena .fill .ensures) (table .fill2 .ensures)
 
 pub fresh-spec : {M : Type 1} → statement M
 fresh-spec =

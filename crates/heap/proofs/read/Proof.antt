@@ -1,37 +1,30 @@
--- `read` meets its contract: by what `order_of`, `arguments` and `before_call` ensure, the call is judged; refused, it leaves the heap as it was,
--- and else it is `unchecked::read` with the order that the arena has.
-use native.Mathlib.Omega.{arith}
+-- Judged by what `order_of`, `arguments` and `before_call` ensure (`judge`): refused, the call leaves the heap as it was (`judged-refused`), and else it is
+-- `unchecked::read` with the order that the arena has (`judged-call`).
 use borrow.Author.Needs.{needs}
-use Rattle.heap.specs.Views.{slotOrder}
 use Rattle.heap.specs.declared.Call.the-variants.{Read}
-use Rattle.heap.proofs.Judging.{Ordered, ordered, order-top, order-slots, Judged, judge, judged-refused, judged-call}
+use Rattle.heap.proofs.Judging.{order-top, order-slots, Judged, judge, judged-refused, judged-call}
 use Rattle.heap.proofs.read.Statement.{statement}
 use Rattle.heap.proofs.read.Tie as tie
 
--- once the order is known
-module _ (c : tie.After-order-of) where
-  abbrev start : tie.Start
-  start = c .before .before .before
-
-  order : Ordered slotOrder (start .args .arena .now) (start .args .table .now) (c .order-of .result)
-  order = ordered (c .order-of .ensures)
-
 -- once the call is judged
 module _ (c : tie.After-before-call) where
-  abbrev o : tie.After-order-of
-  o = c .before .before
+  abbrev sized : tie.After-order-of
+  sized = c .before .before
 
-  judged : let a = start o .args in Judged (Read (a .p) (a .w)) (a .arena .now) (a .table .now) (c .before-call .result) (o .order-of .result)
-  judged = judge (order o) (c .before .arguments .ensures) (c .before-call .ensures)
+  abbrev start : tie.Start
+  start = sized .before .before .before
+
+  judged : let a = start .args in Judged (Read (a .p) (a .w)) (a .arena .now) (a .table .now) (c .before-call .result) (sized .order-of .result)
+  judged = judge (sized .order-of .ensures) (c .before .arguments .ensures) (c .before-call .ensures)
 
 order-of-requires : tie.Need-order-of-requires
 order-of-requires c κs = search needs
 
 arguments-requires : tie.Need-arguments-requires
-arguments-requires c κs = order-top (order c)
+arguments-requires c κs = order-top _ _ (c .order-of .ensures)
 
 before-call-requires : tie.Need-before-call-requires
-before-call-requires c κs = order-slots (order (c .before)) (omega arith) (omega arith)
+before-call-requires c κs = order-slots _ _ (c .before .order-of .ensures)
 
 refused-requires : tie.Need-refused-requires
 refused-requires c κs = search needs

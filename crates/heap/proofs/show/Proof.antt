@@ -1,13 +1,24 @@
--- `show` meets its contract.
-use Prim.Native.Nat.{ℕ, _+_, _-_, _≤_}
-use mathlib.Core.Path.{_≡_, _∙_, ap}
+-- By left's answer for the same p: refused, the part is empty (`shown-refused`), and else left's value is the part's length, and the part lies in the arena
+-- (`shown-inside`, `shown-accepted`).
+use Prim.Native.Nat.{_+_, _-_, _≤_}
 use native.Mathlib.Omega.{arith}
 use borrow.Author.Needs.{needs}
-use lib.ListN.{length, take, drop}
-use Rattle.heap.specs.Heaps.{heapOf, shownFrom}
-use Rattle.heap.proofs.Showing.{shown-by-left, shown-inside, shown-part, shown-place, shown-empty, shown-nowhere}
+use lib.ListN.{length}
+use Rattle.blocks.specs.Blocks.{base}
+use Rattle.heap.proofs.Showing.{shown-inside, shown-refused, shown-accepted}
 use Rattle.heap.proofs.show.Statement.{statement}
 use Rattle.heap.proofs.show.Tie as tie
+
+-- what an accepted left says of the part
+module _ (c : tie.Else1) where
+  abbrev answered : tie.After-left
+  answered = c .before .before
+
+  abbrev entry : tie.Start
+  entry = answered .before .before .before
+
+  inside : (base ≤ entry .args .p) × (entry .args .p - base + answered .left .result .value ≤ length (entry .args .arena .now))
+  inside = shown-inside _ _ (entry .args .table .now) _ (answered .left .ensures) (c .if1 .left)
 
 left-requires : tie.Need-left-requires
 left-requires c κs = search needs
@@ -23,20 +34,9 @@ part-result-end c = search needs
 
 returns : tie.Need-returns
 returns c =
-    let a = c .before .before .before .before .before .before .args in
-    let r = c .before .before .before .left in
-    let n = c .before .if1 .taken in
-    let q : 0 + a .arena .ptr .1 ≡ a .arena .ptr .1 + shownFrom (a .p) (heapOf (a .arena .now) (a .table .now)) = omega (arith, shown-nowhere (a .p) (a .arena .now) (a .table .now) (r .result) (r .ensures) n) in
-    let w = shown-empty (a .p) (a .arena .now) (a .table .now) (r .result) (r .ensures) n in
-    (w, (w ∙ shown-by-left (a .p) (heapOf (a .arena .now) (a .table .now)), ap (λ (x : ℕ). (a .arena .ptr .0, x)) q))
-
--- what an accepted left says of the part
-module _ (c : tie.Else1) where
-  abbrev entry : tie.Start
-  entry = c .before .before .before .before .before
-
-  inside : (65536 ≤ entry .args .p) × (entry .args .p - 65536 + c .before .before .left .result .value ≤ length (entry .args .arena .now))
-  inside = shown-inside (entry .args .p) (entry .args .arena .now) (entry .args .table .now) (c .before .before .left .result) (c .before .before .left .ensures) (c .if1 .left)
+    let answered : tie.After-left = c .before .before .before in
+    let a = answered .before .before .before .args in
+    shown-refused (a .p) (a .arena .now) (a .table .now) _ (answered .left .ensures) (c .before .if1 .taken) (a .arena .ptr .0) (a .arena .ptr .1)
 
 sub-at : tie.Need-sub-at
 sub-at c = inside c .0
@@ -61,16 +61,12 @@ part-result-end-2 c = omega (arith, inside (c .before) .1)
 
 returns-2 : tie.Need-returns-2
 returns-2 c =
-    let k = c .before .before in
+    let k : tie.Else1 = c .before .before in
     let a = entry k .args in
-    let r = k .before .before .left in
-    let z = k .if1 .left in
-    let l : a .p - 65536 + r .result .value - (a .p - 65536) ≡ r .result .value = omega arith in
-    let q : a .p - 65536 + a .arena .ptr .1 ≡ a .arena .ptr .1 + shownFrom (a .p) (heapOf (a .arena .now) (a .table .now)) = omega (arith, shown-place (a .p) (a .arena .now) (a .table .now) (r .result) (r .ensures) z) in
-    let w = ap (λ (n : ℕ). take n (drop (a .p - 65536) (a .arena .now))) l ∙ shown-part (a .p) (a .arena .now) (a .table .now) (r .result) (r .ensures) z in
-    (w, (w ∙ shown-by-left (a .p) (heapOf (a .arena .now) (a .table .now)), ap (λ (x : ℕ). (a .arena .ptr .0, x)) q))
+    shown-accepted (a .p) (a .arena .now) (a .table .now) _ (answered k .left .ensures) (k .if1 .left) (a .arena .ptr .0) (a .arena .ptr .1)
 
 pub show-spec : {M : Type 1} → statement M
 show-spec =
     tie.close
-    (tie.spec left-requires sub-result part-result-start part-result-end returns sub-at cast-at cast-end add-end sub-result-2 part-result-start-2 part-result-end-2 returns-2)
+    (tie.spec left-requires sub-result part-result-start part-result-end returns sub-at cast-at cast-end add-end sub-result-2 part-result-start-2
+    part-result-end-2 returns-2)

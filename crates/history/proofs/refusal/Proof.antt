@@ -1,4 +1,4 @@
--- `refusal` meets its contract: each return is told by the tests before it.
+-- The tests that a path has passed say which refusal of the list is the first that applies (`number-is`).
 use Prim.Native.Nat.{_*_, _%_}
 use mathlib.Core.Path.{_≡_, refl, sym, _∙_, ap}
 use mathlib.Core.Bool.{true, false, not}
@@ -6,9 +6,8 @@ use native.Mathlib.Omega.{arith}
 use lib.Dec.{eqb}
 use lib.ListN.{length}
 use borrow.Author.Tests.{eq-eqb, ne-eqb, lt-ltb, le-ltb}
-use Rattle.heap.specs.Views.{slotOrder}
 use Rattle.heap.specs.Heaps.{heapOf, viewOf}
-use Rattle.heap.proofs.Judging.{Ordered, ordered, order-fits}
+use Rattle.heap.proofs.Judging.{ordered, order-fits}
 use Rattle.heap.specs.Answers.{answerLength}
 use Rattle.history.specs.Replaying.{callLength, callCount, unknownFrom}
 use Rattle.history.proofs.Replaying.{number-is}
@@ -33,11 +32,8 @@ whole-calls c = ap not (eq-eqb _ _ (c .if1 .left))
 all-known : (c : tie.Else2) → let s = at-first (whole c) .args .calls .now in unknownFrom s 0 (callCount s) ≡ false
 all-known c = sym (c .before .any-unknown .ensures) ∙ c .if2 .left
 
-order : (c : tie.After-order-of) → let s = at-first (whole (c .before)) .args in Ordered slotOrder (s .arena .now) (s .table .now) (c .order-of .result)
-order c = ordered (c .order-of .ensures)
-
 good-sizes : (c : tie.Else3) → let s = at-first (whole (known c)) .args in viewOf (heapOf (s .arena .now) (s .table .now)) .wrong-sizes ≡ false
-good-sizes c = order-fits (order (c .before)) (c .if3 .left)
+good-sizes c = order-fits _ _ (c .before .order-of .ensures) (c .if3 .left)
 
 returns : tie.Need-returns
 returns c =
@@ -62,7 +58,7 @@ returns-3 c =
     let k : tie.Else2 = c .before .before in
     let s = at-first (whole k) .args in
     number-is (s .calls .now) (s .arena .now) (s .table .now) (s .out .now) false false true _ (whole-calls (whole k)) (all-known k)
-    (order (c .before) .wrong (c .if3 .taken)) refl
+    (ordered (c .before .order-of .ensures) .wrong (c .if3 .taken)) refl
 
 returns-4 : tie.Need-returns-4
 returns-4 c =

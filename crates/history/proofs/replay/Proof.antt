@@ -5,7 +5,6 @@ use native.Mathlib.Omega.{arith}
 use borrow.Author.Needs.{needs}
 use Rattle.common.specs.Refusals.{first}
 use Rattle.heap.specs.Heaps.{heapOf}
-use Rattle.heap.proofs.Judging.{ordered}
 use Rattle.history.specs.Replaying.{replayRules}
 use Rattle.history.proofs.Replaying.{Playable, playable, refused-is, Going, going-start, going-sound, going-step, going-end, played-is}
 use Rattle.history.proofs.replay.Statement.{statement}
@@ -45,7 +44,7 @@ module _ (c : tie.After-order-of Inv-loop μ-loop) where
   accepted = sym (judged c .refusal .ensures) ∙ c .before .before .before .if1 .left
 
   fine : Playable (c .order-of .result) (s .args .calls .now) (s .args .arena .now) (s .args .table .now) (s .args .out .now)
-  fine = playable _ (s .args .calls .now) (s .args .arena .now) (s .args .table .now) (s .args .out .now) (ordered (c .order-of .ensures)) accepted
+  fine = playable _ (s .args .calls .now) (s .args .arena .now) (s .args .table .now) (s .args .out .now) (c .order-of .ensures) accepted
 
 refusal-requires : tie.Need-refusal-requires Inv-loop μ-loop
 refusal-requires c κs = search needs

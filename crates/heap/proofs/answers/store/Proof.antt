@@ -1,3 +1,4 @@
+-- The first byte is stored by itself and the value's four after it: together that is one store of five bytes (`over-first`).
 use Prim.Native.Nat.{_%_}
 use mathlib.Core.Path.{sym, _∙_}
 use native.Mathlib.Omega.{arith}

@@ -1,7 +1,15 @@
-use mathlib.Core.Path.{sym, _∙_}
+-- The tests that a path has passed say which refusal of the list is the first that applies: the width, the value, then those of `plain`.
+use mathlib.Core.Path.{_≡_, sym, _∙_}
+use mathlib.Core.Bool.{false}
 use borrow.Author.Needs.{needs}
+use Rattle.heap.specs.Rules.{badWidth}
 use Rattle.heap.proofs.refusals.access.Statement.{statement}
 use Rattle.heap.proofs.refusals.access.Tie as tie
+
+-- the width is good
+module _ (c : tie.Else1) where
+  good-width : badWidth (c .before .before .args .w) ≡ false
+  good-width = sym (c .before .bad-width .ensures) ∙ c .if1 .left
 
 bad-width-requires : tie.Need-bad-width-requires
 bad-width-requires c κs = search needs
@@ -10,20 +18,18 @@ returns : tie.Need-returns
 returns c = rw (sym (c .before .bad-width .ensures) ∙ c .if1 .taken)
 
 too-wide-requires : tie.Need-too-wide-requires
-too-wide-requires c κs = sym (c .before .bad-width .ensures) ∙ c .if1 .left
+too-wide-requires c κs = good-width c
 
 returns-2 : tie.Need-returns-2
-returns-2 c =
-    rw (sym (c .before .before .before .bad-width .ensures) ∙ c .before .before .if1 .left, sym (c .before .too-wide .ensures) ∙ c .if2 .taken)
+returns-2 c = let wide : tie.After-too-wide = c .before in rw (good-width (wide .before), sym (wide .too-wide .ensures) ∙ c .if2 .taken)
 
 plain-requires : tie.Need-plain-requires
 plain-requires c κs = search needs
 
 returns-3 : tie.Need-returns-3
 returns-3 c =
-    rw
-    (sym (c .before .before .before .before .bad-width .ensures) ∙ c .before .before .before .if1 .left, sym (c .before .before .too-wide .ensures) ∙ c .before .if2 .left)
-    (c .plain .ensures)
+    let wide : tie.After-too-wide = c .before .before in
+    rw (good-width (wide .before), sym (wide .too-wide .ensures) ∙ c .before .if2 .left) (c .plain .ensures)
 
 pub access-spec : {M : Type 1} → statement M
 access-spec = tie.close (tie.spec bad-width-requires returns too-wide-requires returns-2 plain-requires returns-3)

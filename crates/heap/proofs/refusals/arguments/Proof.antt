@@ -1,5 +1,7 @@
+-- Each arm asks the function of its list, and what that ensures is said of the call that c is (`found`). A read is judged as a write of 0 (`zero-fits`), a
+-- copy by its first pointer and then by its second (`copy-marked`, `copy-plain`).
 use Prim.Native.Nat.{ℕ}
-use mathlib.Core.Path.{_≡_, sym, _∙_, ap}
+use mathlib.Core.Path.{_≡_, refl, sym, _∙_, ap}
 use borrow.Author.Needs.{needs}
 use Rattle.common.specs.Refusals.{first}
 use Rattle.heap.specs.Rules.{argumentRules}
@@ -8,8 +10,20 @@ use Rattle.heap.proofs.Arguments.{zero-fits, copy-marked, copy-plain}
 use Rattle.heap.proofs.refusals.arguments.Statement.{statement}
 use Rattle.heap.proofs.refusals.arguments.Tie as tie
 
-same : (m : ℕ) {c d : Call} → c ≡ d → first (argumentRules m d) ≡ first (argumentRules m c)
-same m e = ap (λ (x : Call). first (argumentRules m x)) (sym e)
+-- what an arm finds for the call d, which c is
+found : (m : ℕ) {c d : Call} → c ≡ d → {n : ℕ} → n ≡ first (argumentRules m d) → n ≡ first (argumentRules m c)
+found m e q = q ∙ ap (λ (x : Call). first (argumentRules m x)) (sym e)
+
+-- a copy, once its first pointer is judged
+module _ (c : tie.After-is-marked) where
+  abbrev at-copy : tie.After-c6
+  at-copy = c .before .before
+
+  abbrev p : ℕ
+  p = at-copy .c6 .given .0 .0
+
+  abbrev q : ℕ
+  q = at-copy .c6 .given .0 .1 .0
 
 enum-known-c : tie.Need-enum-known-c
 enum-known-c c = search needs
@@ -60,42 +74,49 @@ plain-requires-4 : tie.Need-plain-requires-4
 plain-requires-4 c κs = search needs
 
 returns : tie.Need-returns
-unfolding argumentRules
-returns c = c .request .ensures ∙ same (c .before .before .before .before .args .m) (c .before .before .c .given .1)
+returns c = let k : tie.After-c = c .before .before in found _ (k .c .given .1) (c .request .ensures)
 
 returns-2 : tie.Need-returns-2
 unfolding argumentRules
-returns-2 c = c .plain .ensures ∙ same (c .before .before .before .before .args .m) (c .before .before .c2 .given .1)
+returns-2 c = let k : tie.After-c2 = c .before .before in found _ (k .c2 .given .1) (c .plain .ensures)
 
 returns-3 : tie.Need-returns-3
 unfolding argumentRules
-returns-3 c = same (c .before .before .args .m) (c .enum-told .given .1)
+returns-3 c = found _ (c .enum-told .given .1) refl
 
 returns-4 : tie.Need-returns-4
 unfolding argumentRules
-returns-4 c = c .access .ensures ∙ zero-fits (c .before .before .c3 .given .0 .0) (c .before .before .c3 .given .0 .1 .0) ∙ same (c .before .before .before .before .args .m) (c .before .before .c3 .given .1)
+returns-4 c =
+    let k : tie.After-c3 = c .before .before in
+    found _ (k .c3 .given .1) (c .access .ensures ∙ zero-fits (k .c3 .given .0 .0) (k .c3 .given .0 .1 .0))
 
 returns-5 : tie.Need-returns-5
 unfolding argumentRules
-returns-5 c = c .access2 .ensures ∙ same (c .before .before .before .before .args .m) (c .before .before .c4 .given .1)
+returns-5 c = let k : tie.After-c4 = c .before .before in found _ (k .c4 .given .1) (c .access2 .ensures)
 
 returns-6 : tie.Need-returns-6
 unfolding argumentRules
-returns-6 c = c .plain2 .ensures ∙ same (c .before .before .before .before .args .m) (c .before .before .c5 .given .1)
+returns-6 c = let k : tie.After-c5 = c .before .before in found _ (k .c5 .given .1) (c .plain2 .ensures)
 
 returns-7 : tie.Need-returns-7
 unfolding argumentRules
-returns-7 c = sym (copy-marked (c .before .before .before .c6 .given .0 .0) (c .before .before .before .c6 .given .0 .1 .0) (sym (c .before .is-marked .ensures) ∙ c .if1 .taken)) ∙ same (c .before .before .before .before .before .args .m) (c .before .before .before .c6 .given .1)
+returns-7 c =
+    let k : tie.After-is-marked = c .before in
+    found _ (at-copy k .c6 .given .1) (sym (copy-marked (p k) (q k) (sym (k .is-marked .ensures) ∙ c .if1 .taken)))
 
 returns-8 : tie.Need-returns-8
 unfolding argumentRules
 returns-8 c =
-    c .plain3 .ensures
-    ∙ sym (copy-plain (c .before .before .before .before .c6 .given .0 .0) (c .before .before .before .before .c6 .given .0 .1 .0) (sym (c .before .before .is-marked .ensures) ∙ c .before .if1 .left)) ∙ same (c .before .before .before .before .before .before .args .m) (c .before .before .before .before .c6 .given .1)
+    let k : tie.After-is-marked = c .before .before in
+    found _ (at-copy k .c6 .given .1) (c .plain3 .ensures ∙ sym (copy-plain (p k) (q k) (sym (k .is-marked .ensures) ∙ c .before .if1 .left)))
 
 returns-9 : tie.Need-returns-9
 unfolding argumentRules
-returns-9 c = c .plain4 .ensures ∙ same (c .before .before .before .before .args .m) (c .before .before .c7 .given .1)
+returns-9 c = let k : tie.After-c7 = c .before .before in found _ (k .c7 .given .1) (c .plain4 .ensures)
 
 pub arguments-spec : {M : Type 1} → statement M
-arguments-spec = tie.close (tie.spec enum-known-c request-requires enum-known-c-2 plain-requires enum-told enum-known-c-3 access-requires enum-known-c-4 access-requires-2 enum-known-c-5 plain-requires-2 enum-known-c-6 is-marked-requires plain-requires-3 enum-known-c-7 plain-requires-4 returns returns-2 returns-3 returns-4 returns-5 returns-6 returns-7 returns-8 returns-9)
+arguments-spec =
+    tie.close
+    (tie.spec enum-known-c request-requires enum-known-c-2 plain-requires enum-told enum-known-c-3 access-requires enum-known-c-4 access-requires-2
+    enum-known-c-5 plain-requires-2 enum-known-c-6 is-marked-requires plain-requires-3 enum-known-c-7 plain-requires-4 returns returns-2 returns-3
+    returns-4 returns-5 returns-6 returns-7 returns-8 returns-9)

@@ -1,3 +1,4 @@
+-- Each return is told by the tests before it: the width is 1, or 2, or 4 or none of them.
 use borrow.Author.Tests.{ne-eqb}
 use Rattle.heap.proofs.refusals.bad_width.Statement.{statement}
 use Rattle.heap.proofs.refusals.bad_width.Tie as tie

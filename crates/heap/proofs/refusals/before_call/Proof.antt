@@ -1,4 +1,4 @@
--- `before_call` meets its contract: the tests that a path has passed say which refusal of the list is the first that applies.
+-- The tests that a path has passed say which refusal of the list is the first that applies: 8, the arguments', 20 or none.
 use mathlib.Core.Bool.{false}
 use mathlib.Core.Path.{_≡_, sym, _∙_}
 use native.Mathlib.Omega.{arith}

@@ -1,4 +1,4 @@
--- `locate` meets its contract: the referent decides what the list says.
+-- The referent that `referent_of` finds decides what the list says: none refuses the pointer (`located-missing`), a block does not (`located-found`).
 use mathlib.Core.Path.{sym, _∙_}
 use mathlib.Core.List.{[]}
 use borrow.Author.Needs.{needs}

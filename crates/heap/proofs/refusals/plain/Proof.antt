@@ -1,3 +1,4 @@
+-- By what `is_marked` ensures, on either side of the test.
 use mathlib.Core.Path.{sym, _∙_}
 use borrow.Author.Needs.{needs}
 use Rattle.heap.proofs.refusals.plain.Statement.{statement}

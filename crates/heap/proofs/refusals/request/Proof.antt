@@ -1,3 +1,4 @@
+-- Each return is told by the tests before it: n is 0, or above the arena's length, or neither.
 use Prim.Native.Nat.{_^_, _≤_, _<_}
 use native.Mathlib.Omega.{arith}
 use borrow.Author.Tests.{ne-eqb, lt-ltb, le-ltb}

@@ -1,3 +1,4 @@
+-- By the width: 1 and 2 are the two arms, and the third is 4 (`width-four`), which any v of 32 bits fits.
 use mathlib.Core.Path.{sym}
 use borrow.Author.Tests.{lt-leb}
 use Rattle.heap.proofs.Arguments.{width-four}

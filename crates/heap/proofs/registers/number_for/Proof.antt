@@ -1,3 +1,4 @@
+-- By what `index` ensures, on either side of the test.
 use native.Mathlib.Omega.{arith}
 use borrow.Author.Needs.{needs}
 use borrow.Author.Tests.{lt-ltb, le-ltb}

@@ -1,5 +1,5 @@
--- `heap::registers::put` meets its contract: a walk of its MIR, by hand. The borrow is opened, the struct is copied out of it and passed to
--- `with_value`, what that returns is stored over it, and the borrow is closed at the new registers; `number_for` gives the number.
+-- A walk of the function's MIR, by hand: the search has no step for a whole struct behind a reference. The borrow is opened, the struct is copied out of it
+-- and passed to `with_value`, what that returns is stored over it, and the borrow is closed at the new registers; `number_for` gives the number.
 use mathlib.Core.Path.{_≡_, refl, ap}
 use mathlib.Core.Bool.{Bool, true, false, cond}
 use Prim.Native.Nat.{ℕ, _<_, _^_}

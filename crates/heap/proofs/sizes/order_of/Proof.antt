@@ -1,5 +1,5 @@
--- `order_of` meets its contract: the arena's length has an order exactly where it is a heap's, and the table is then as long as the shift says
--- (`sizes-computed`).
+-- Where the shift does not give the table's length there is no order (`order-unfit`), and where it does the order is that of the arena's length
+-- (`order-fit`).
 use mathlib.Core.Path.{_∙_}
 use native.Mathlib.Omega.{arith}
 use borrow.Author.Needs.{needs}

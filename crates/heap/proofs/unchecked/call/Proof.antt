@@ -1,4 +1,4 @@
--- `unchecked::call` meets its contract: its arguments refuse the call, or each arm is the call's own function, which they make ready.
+-- The arguments refuse the call (`argument-refused`), or each arm is the call's own function, which they make ready (`ready`, `same`).
 use Prim.Native.Nat.{ℕ}
 use mathlib.Core.Path.{_≡_, _∙_, sym, ap, subst}
 use mathlib.Core.List.{List}
@@ -8,7 +8,7 @@ use Rattle.common.specs.Refusals.{first}
 use Rattle.heap.specs.Rules.{argumentRules, rules}
 use Rattle.heap.specs.Effects.{Outcome}
 use Rattle.heap.specs.Heaps.{Heap, heapOf, heapView, heapStep, outcome}
-use Rattle.heap.specs.Judging.{Sound, Ready}
+use Rattle.heap.specs.Inner.{Sound, Ready}
 use Rattle.heap.specs.declared.Answer.{Answer}
 use Rattle.heap.specs.declared.Call.{Call}
 use Rattle.heap.proofs.Settling.{answer}

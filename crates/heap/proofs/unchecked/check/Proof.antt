@@ -1,23 +1,19 @@
--- `unchecked::check` meets its contract.
+-- `locate` leads p to a number, which refuses the check (`check-missing`), or to a block, of whose order `passes` answers (`check-found`).
 use mathlib.Core.Path.{_≡_, _∙_, sym, ap}
-use mathlib.Core.List.{[]}
 use mathlib.Core.Logic.{⊎-elim}
 use borrow.Author.Needs.{needs}
-use Rattle.heap.specs.Heaps.{heapOf, heapView, bit}
-use Rattle.heap.specs.Judging.{located}
-use Rattle.heap.specs.declared.refusals.Located.the-variants.{Refused, Inside}
+use Rattle.heap.specs.Heaps.{bit}
 use Rattle.heap.proofs.Settling.{answer}
-use Rattle.heap.proofs.Stepping.{check-order, check-missing, check-found}
+use Rattle.heap.proofs.Stepping.{check-missing, check-order, check-found}
 use Rattle.heap.proofs.unchecked.check.Statement.{statement}
 use Rattle.heap.proofs.unchecked.check.Tie as tie
 
--- where the pointer is refused
-module _ (c : tie.After-number) where
-  abbrev origin : tie.Start
-  origin = c .before .before .before .before .before
+-- where p leads to a number, and where to a block
+abbrev at-refusal : tie.After-number → tie.Start
+at-refusal c = c .before .before .before .before .before
 
-  refusal : let a = origin .args in located (heapView (a .t) (a .m) (heapOf [] (a .table .now))) (a .p) ≡ Refused (c .number .given .0 .0)
-  refusal = sym (c .before .before .locate .ensures) ∙ c .number .given .1
+abbrev at-block : tie.After-e → tie.Start
+at-block c = c .before .before .before .before .before
 
 locate-requires : tie.Need-locate-requires
 locate-requires c κs = search needs
@@ -31,31 +27,31 @@ refused-requires c κs = search needs
 enum-known-e : tie.Need-enum-known-e
 enum-known-e c = search needs
 
-module _ (c : tie.After-e) where
-  abbrev entry : tie.Start
-  entry = c .before .before .before .before .before
-
-  found : let a = entry .args in located (heapView (a .t) (a .m) (heapOf [] (a .table .now))) (a .p) ≡ Inside (c .e .given .0 .0) (c .e .given .0 .1 .0)
-  found = sym (c .before .before .locate .ensures) ∙ c .e .given .1
-
 passes-requires : tie.Need-passes-requires
 passes-requires c κs =
-    let k = c .before in
-    check-order _ _ (entry k .args .arena .now) _ _ (entry k .args .i) (entry k .pre .0) (entry k .pre .1) (found k)
+    let k : tie.After-e = c .before in
+    let s = at-block k in
+    check-order {a = s .args .arena .now} (s .pre .0) _ (s .args .i) (s .pre .1) (k .before .before .locate .ensures) (k .e .given .1)
 
 accepted-requires : tie.Need-accepted-requires
 accepted-requires c κs = search needs
 
 returns : tie.Need-returns
-returns c = let k = c .before .before in c .refused .ensures ∙ check-missing _ _ (origin k .args .arena .now) _ _ _ (origin k .pre .0) (origin k .pre .1) _ (refusal k)
+returns c =
+    let k : tie.After-number = c .before .before in
+    let s = at-refusal k in
+    check-missing (s .pre .0) _ _ (s .pre .1) (k .before .before .locate .ensures) (k .number .given .1) (c .refused .ensures)
 
 returns-2 : tie.Need-returns-2
 returns-2 c =
-    let n = c .before .before in
-    let k = n .before .before in
-    let b : c .before .if1 .accepted ≡ bit (n .passes .result) =
-    ⊎-elim (λ w. w .1 ∙ ap bit (sym (w .0 .taken))) (λ w. w .1 ∙ ap bit (sym (w .0 .left))) (c .before .if1 .came) in
-    c .accepted .ensures ∙ ap (answer 0) b ∙ check-found _ _ _ _ _ _ (entry k .pre .0) (entry k .pre .1) (found k) _ (n .passes .ensures .0)
+    let chosen = c .before .if1 in
+    let passed : tie.After-passes = c .before .before in
+    let k : tie.After-e = passed .before .before in
+    let s = at-block k in
+    let b : chosen .accepted ≡ bit (passed .passes .result) =
+    ⊎-elim (λ w. w .1 ∙ ap bit (sym (w .0 .taken))) (λ w. w .1 ∙ ap bit (sym (w .0 .left))) (chosen .came) in
+    check-found (s .pre .0) _ _ (s .pre .1) (k .before .before .locate .ensures) (k .e .given .1) (passed .passes .ensures .0)
+    (c .accepted .ensures ∙ ap (answer 0) b)
 
 pub check-spec : {M : Type 1} → statement M
 check-spec =

@@ -1,26 +1,30 @@
--- `unchecked::fill` meets its contract.
-use Prim.Native.Nat.{ℕ, _+_, _≤_}
-use mathlib.Core.Path.{_≡_, _∙_, refl, sym, ap}
-use mathlib.Core.List.{[]}
+-- `locate` leads p to a number, which refuses the call (`led-refused`), or to a block: the bytes that are filled are left in it, so they lie in the arena
+-- (`room`), and what is stored and answered is the call's outcome (`fill-done`).
+use mathlib.Core.Path.{refl}
 use native.Mathlib.Omega.{arith}
 use borrow.Author.Needs.{needs}
-use lib.ListN.{length, replicate}
-use Rattle.common.specs.Bytes.{over}
 use Rattle.heap.specs.Rules.{argumentRules, stateRules}
-use Rattle.heap.specs.Heaps.{heapOf, heapView, outcome}
-use Rattle.heap.specs.Judging.{located}
-use Rattle.heap.specs.declared.refusals.Located.the-variants.{Refused, Inside}
-use Rattle.heap.proofs.Accesses.{Within, left-asks, at-base, room, home-refused, spot, fill-done}
+use Rattle.heap.specs.declared.Call.the-variants.{Fill}
+use Rattle.heap.proofs.Accesses.{Led, led-refused, led, left-asks, at-base, room, fill-done}
 use Rattle.heap.proofs.unchecked.fill.Statement.{statement}
 use Rattle.heap.proofs.unchecked.fill.Tie as tie
 
--- where the pointer is refused
-module _ (c : tie.After-number) where
-  abbrev origin : tie.Start
-  origin = c .before .before .before .before .before
+abbrev at-refusal : tie.After-number → tie.Start
+at-refusal c = c .before .before .before .before .before
 
-  refusal : let a = origin .args in located (heapView (a .t) (a .m) (heapOf [] (a .table .now))) (a .p) ≡ Refused (c .number .given .0 .0)
-  refusal = sym (c .before .before .locate .ensures) ∙ c .number .given .1
+-- where p leads to a block
+module _ (c : tie.After-s) where
+  abbrev entry : tie.Start
+  entry = c .before .before .before .before .before
+
+  home : let a = entry .args in Led (a .t) (a .m) (Fill (a .p) (a .v) (a .n)) (a .arena .now) (a .table .now) (a .p) (c .s .given .0 .0) (c .s .given .0 .1 .0)
+  unfolding argumentRules
+  home = led (entry .pre) _ (c .before .before .locate .ensures) (λ h. h) (c .s .given .1)
+
+-- once the bytes are counted
+module _ (c : tie.After-least) where
+  abbrev at-block : tie.After-s
+  at-block = c .before .before .before
 
 locate-requires : tie.Need-locate-requires
 locate-requires c κs = search needs
@@ -34,35 +38,22 @@ refused-requires c κs = search needs
 enum-known-s : tie.Need-enum-known-s
 enum-known-s c = search needs
 
-module _ (c : tie.After-s) where
-  abbrev entry : tie.Start
-  entry = c .before .before .before .before .before
-
-  found : let a = entry .args in located (heapView (a .t) (a .m) (heapOf [] (a .table .now))) (a .p) ≡ Inside (c .s .given .0 .0) (c .s .given .0 .1 .0)
-  found = sym (c .before .before .locate .ensures) ∙ c .s .given .1
-
-  within : Within (entry .args .t) (entry .args .m) (c .s .given .0 .0) (c .s .given .0 .1 .0) (entry .args .p)
-  unfolding argumentRules
-  within = spot _ _ _ (entry .args .arena .now) (entry .args .table .now) (entry .pre) _ found (λ h. h)
-
 left-in-requires : tie.Need-left-in-requires
-left-in-requires c κs = left-asks (within (c .before))
+left-in-requires c κs = left-asks (home (c .before))
 
 least-requires : tie.Need-least-requires
 least-requires c κs = search needs
 
 offset-requires : tie.Need-offset-requires
-offset-requires c κs = at-base (within (c .before .before .before .before))
+offset-requires c κs = at-base (home (at-block (c .before)))
 
 cast-fill : tie.Need-cast-fill
 cast-fill c = search needs
 
 fill-requires : tie.Need-fill-requires
 fill-requires c κs =
-    let k = c .before .before .before .before .before in
-    let x : c .offset .result + c .before .before .least .result ≤ length (entry k .args .arena .now) =
-    omega (arith, room (within k) (c .before .before .least .result) (omega arith), entry k .pre .sound .size) in
-    x
+    let counted : tie.After-least = c .before .before in
+    room (home (at-block counted)) (c .offset .ensures) (counted .least .result) (omega arith)
 
 accepted-requires : tie.Need-accepted-requires
 accepted-requires c κs = search needs
@@ -70,20 +61,19 @@ accepted-requires c κs = search needs
 returns : tie.Need-returns
 unfolding stateRules
 returns c =
-    let k = c .before .before in
-    ap (λ x. outcome x (origin k .args .arena .now) (origin k .args .table .now)) (c .refused .ensures)
-    ∙ home-refused _ _ _ _ _ (origin k .pre) _ _ refl _ (refusal k)
+    let k : tie.After-number = c .before .before in
+    led-refused (at-refusal k .pre) _ (k .before .before .locate .ensures) _ refl (k .number .given .1) (c .refused .ensures)
 
 same-length : tie.Need-same-length
 same-length c = search needs
 
 returns-2 : tie.Need-returns-2
 returns-2 c =
-    let k = c .before .before .before .before .before .before .before .before .before in
-    let l = c .before .before .before .before .before .before in
-    ap (λ x. outcome x (c .before .before .before .fill .last .0) (entry k .args .table .now)) (c .accepted .ensures)
-    ∙ fill-done _ _ (entry k .args .arena .now) (entry k .args .table .now) _ (found k) _ _ _ _ (entry k .pre) (l .before .left-in .ensures) (l .least .ensures) _
-    (c .before .before .before .fill .ensures ∙ ap (λ (x : ℕ). over (entry k .args .arena .now) x (replicate (l .least .result) (entry k .args .v))) (c .before .before .before .before .offset .ensures))
+    let filled : tie.After-fill = c .before .before .before in
+    let placed : tie.After-offset = filled .before in
+    let counted : tie.After-least = placed .before .before in
+    fill-done (home (at-block counted)) (counted .before .left-in .ensures) (counted .least .ensures) (placed .offset .ensures) (filled .fill .ensures)
+    (c .accepted .ensures)
 
 pub fill-spec : {M : Type 1} → statement M
 fill-spec =

@@ -1,5 +1,5 @@
--- A place is a free range of at least the order that is needed, so the block's entries and its cleared bytes lie in the table and the arena. With no
--- place the call is refused.
+-- With no place the call is refused (`get-none`). A place is a free range of at least the order that is needed, so the block's entries and its cleared
+-- bytes lie in the table and the arena (`get-slots`, `get-bytes`), and what is stored and answered is the call's outcome (`get-done`).
 use Prim.Native.Nat.{ℕ, _+_, _-_, _*_, _%_, _^_, _≤_}
 use mathlib.Core.Path.{_≡_, sym, _∙_, ap, ap₂}
 use native.Mathlib.Omega.{arith}

@@ -1,46 +1,30 @@
--- `unchecked::give` meets its contract.
-use Prim.Native.Nat.{ℕ, _/_, _^_}
-use mathlib.Core.Path.{_≡_, refl, sym, _∙_, ap, ap₂}
-use mathlib.Core.List.{[]}
+-- `locate` leads p to a number, which refuses the call (`led-refused`), or to a block. Where p is not the block's start the call is refused
+-- (`give-inside`), and else the block's entries lie in the table (`give-slots`) and become 0 (`give-done`).
+use mathlib.Core.Path.{refl}
 use native.Mathlib.Omega.{arith}
 use borrow.Author.Needs.{needs}
-use lib.ListN.{replicate}
-use Rattle.common.specs.Bytes.{over}
 use Rattle.heap.specs.Rules.{argumentRules, stateRules}
-use Rattle.heap.specs.Heaps.{heapOf, heapView, outcome}
-use Rattle.heap.specs.Judging.{located}
-use Rattle.heap.specs.declared.Answer.{Answer}
-use Rattle.heap.specs.declared.refusals.Located.the-variants.{Refused, Inside}
-use Rattle.heap.proofs.Accesses.{Within, home-refused, spot}
-use Rattle.heap.proofs.Placing.{give-inside, give-done, give-slots}
+use Rattle.heap.specs.declared.Call.the-variants.{Give}
+use Rattle.heap.proofs.Accesses.{Led, led-refused, led, at-base}
+use Rattle.heap.proofs.Placing.{give-inside, give-slots, give-done}
 use Rattle.heap.proofs.unchecked.give.Statement.{statement}
 use Rattle.heap.proofs.unchecked.give.Tie as tie
 
--- where the pointer is refused
-module _ (c : tie.After-number) where
-  abbrev origin : tie.Start
-  origin = c .before .before .before .before .before .before
+abbrev at-refusal : tie.After-number → tie.Start
+at-refusal c = c .before .before .before .before .before .before
 
-  refusal : let a = origin .args in located (heapView (a .t) (a .m) (heapOf [] (a .table .now))) (a .p) ≡ Refused (c .number .given .0 .0)
-  refusal = sym (c .before .before .locate .ensures) ∙ c .number .given .1
-
--- what is known of the referent
+-- where p leads to a block
 module _ (c : tie.After-s) where
   abbrev entry : tie.Start
   entry = c .before .before .before .before .before .before
 
-  abbrev start : ℕ
-  start = c .s .given .0 .0
-
-  abbrev order : ℕ
-  order = c .s .given .0 .1 .0
-
-  found : let a = entry .args in located (heapView (a .t) (a .m) (heapOf [] (a .table .now))) (a .p) ≡ Inside start order
-  found = sym (c .before .before .locate .ensures) ∙ c .s .given .1
-
-  within : Within (entry .args .t) (entry .args .m) start order (entry .args .p)
+  home : let a = entry .args in Led (a .t) (a .m) (Give (a .p)) (a .arena .now) (a .table .now) (a .p) (c .s .given .0 .0) (c .s .given .0 .1 .0)
   unfolding argumentRules
-  within = spot _ _ _ (entry .args .arena .now) (entry .args .table .now) (entry .pre) _ found (λ h. h)
+  home = led (entry .pre) _ (c .before .before .locate .ensures) (λ h. h) (c .s .given .1)
+
+-- once p is known to be the block's start
+abbrev at-block : tie.Else1 → tie.After-s
+at-block c = c .before .before
 
 locate-requires : tie.Need-locate-requires
 locate-requires c κs = search needs
@@ -62,27 +46,29 @@ same-length c = search needs
 
 returns : tie.Need-returns
 returns c =
-    let k = c .before .before .before in
-    let a = entry k .args in
-    ap (λ (x : Answer). outcome x (a .arena .now) (a .table .now)) (c .refused2 .ensures)
-    ∙ give-inside (a .t) (a .m) (a .p) (a .arena .now) (a .table .now) (entry k .pre) (found k) (c .before .if1 .taken)
+    let inside : tie.Then1 = c .before in
+    let k : tie.After-s = inside .before .before in
+    give-inside (home k) (inside .if1 .taken) (c .refused2 .ensures)
 
 offset-requires : tie.Need-offset-requires
-offset-requires c κs = let w = within (c .before .before .before) in omega (arith, w .above, w .low)
+offset-requires c κs = let start : tie.Else1 = c .before in at-base (home (at-block start))
 
 shr-fill : tie.Need-shr-fill
-shr-fill c = let s = entry (c .before .before .before .before) .pre .sound in omega (arith, s .slot-high, s .high)
+shr-fill c =
+    let start : tie.Else1 = c .before .before in
+    let s = entry (at-block start) .pre .sound in
+    omega (arith, s .slot-high, s .high)
 
 slots-of-requires : tie.Need-slots-of-requires
-slots-of-requires c κs = let w = within (c .before .before .before .before) in (w .aligned .low, w .order)
+slots-of-requires c κs =
+    let start : tie.Else1 = c .before .before in
+    let w = home (at-block start) .within in
+    (w .aligned .low, w .order)
 
 fill-requires : tie.Need-fill-requires
 fill-requires c κs =
-    let k = c .before .before .before .before .before in
-    let a = entry k .args in
-    let z = c .before .before .before .if1 .left in
-    let fit = give-slots (a .t) (a .m) (a .p) (a .arena .now) (a .table .now) (entry k .pre) (found k) (within k) z in
-    omega (arith, fit, c .slots-of .ensures, ap (λ (x : ℕ). x / 2 ^ a .t) (c .before .offset .ensures))
+    let start : tie.Else1 = c .before .before .before in
+    give-slots (home (at-block start)) (start .if1 .left) (c .before .offset .ensures) (c .slots-of .ensures)
 
 accepted-requires : tie.Need-accepted-requires
 accepted-requires c κs = search needs
@@ -93,21 +79,37 @@ same-length-2 c = search needs
 returns-2 : tie.Need-returns-2
 unfolding stateRules
 returns-2 c =
-    let k = c .before .before in
-    ap (λ (x : Answer). outcome x (origin k .args .arena .now) (origin k .args .table .now)) (c .refused .ensures)
-    ∙ home-refused _ _ _ _ _ (origin k .pre) _ _ refl _ (refusal k)
+    let k : tie.After-number = c .before .before in
+    led-refused (at-refusal k .pre) _ (k .before .before .locate .ensures) _ refl (k .number .given .1) (c .refused .ensures)
 
 same-length-3 : tie.Need-same-length-3
 same-length-3 c = search needs
 
 returns-3 : tie.Need-returns-3
 returns-3 c =
-    let k = c .before .before .before .before .before .before .before .before .before in
-    let a = entry k .args in
-    let x = c .before .before .before .fill in
-    ap (λ (r : Answer). outcome r (a .arena .now) (x .last .0)) (c .accepted .ensures)
-    ∙ give-done (a .t) (a .m) (a .p) (a .arena .now) (a .table .now) (entry k .pre) (found k) (c .before .before .before .before .before .before .before .if1 .left) (x .last .0)
-    (x .ensures ∙ ap₂ (λ (i n : ℕ). over (a .table .now) (i / 2 ^ a .t) (replicate n 0)) (c .before .before .before .before .before .offset .ensures) (c .before .before .before .before .slots-of .ensures))
+    let filled : tie.After-fill = c .before .before .before in
+    let counted : tie.After-slots-of = filled .before in
+    let placed : tie.After-offset = counted .before in
+    let start : tie.Else1 = placed .before .before in
+    give-done (home (at-block start)) (start .if1 .left) (placed .offset .ensures) (counted .slots-of .ensures) (filled .fill .ensures) (c .accepted .ensures)
 
 pub give-spec : {M : Type 1} → statement M
-give-spec = tie.close (tie.spec locate-requires enum-known-number refused-requires enum-known-s refused-requires-2 same-length returns offset-requires shr-fill slots-of-requires fill-requires accepted-requires same-length-2 returns-2 same-length-3 returns-3)
+give-spec =
+    tie.close
+    (tie.spec
+    locate-requires
+    enum-known-number
+    refused-requires
+    enum-known-s
+    refused-requires-2
+    same-length
+    returns
+    offset-requires
+    shr-fill
+    slots-of-requires
+    fill-requires
+    accepted-requires
+    same-length-2
+    returns-2
+    same-length-3
+    returns-3)

@@ -1,22 +1,23 @@
--- `unchecked::left` meets its contract.
-use mathlib.Core.Path.{_≡_, _∙_, refl, sym, ap}
-use mathlib.Core.List.{[]}
+-- `locate` leads p to a number, which refuses the call (`led-refused`), or to a block, of which `left_in` counts what is left (`left-done`).
+use mathlib.Core.Path.{refl}
 use borrow.Author.Needs.{needs}
 use Rattle.heap.specs.Rules.{argumentRules, stateRules}
-use Rattle.heap.specs.Heaps.{heapOf, heapView, outcome}
-use Rattle.heap.specs.Judging.{located}
-use Rattle.heap.specs.declared.refusals.Located.the-variants.{Refused, Inside}
-use Rattle.heap.proofs.Accesses.{Within, left-asks, home-refused, spot, left-done}
+use Rattle.heap.specs.declared.Call.the-variants.{Left}
+use Rattle.heap.proofs.Accesses.{Led, led-refused, led, left-asks, left-done}
 use Rattle.heap.proofs.unchecked.left.Statement.{statement}
 use Rattle.heap.proofs.unchecked.left.Tie as tie
 
--- where the pointer is refused
-module _ (c : tie.After-number) where
-  abbrev origin : tie.Start
-  origin = c .before .before .before .before .before
+abbrev at-refusal : tie.After-number → tie.Start
+at-refusal c = c .before .before .before .before .before
 
-  refusal : let a = origin .args in located (heapView (a .t) (a .m) (heapOf [] (a .table .now))) (a .p) ≡ Refused (c .number .given .0 .0)
-  refusal = sym (c .before .before .locate .ensures) ∙ c .number .given .1
+-- where p leads to a block
+module _ (c : tie.After-s) where
+  abbrev entry : tie.Start
+  entry = c .before .before .before .before .before
+
+  home : let a = entry .args in Led (a .t) (a .m) (Left (a .p)) (a .arena .now) (a .table .now) (a .p) (c .s .given .0 .0) (c .s .given .0 .1 .0)
+  unfolding argumentRules
+  home = led (entry .pre) _ (c .before .before .locate .ensures) (λ h. h) (c .s .given .1)
 
 locate-requires : tie.Need-locate-requires
 locate-requires c κs = search needs
@@ -30,19 +31,8 @@ refused-requires c κs = search needs
 enum-known-s : tie.Need-enum-known-s
 enum-known-s c = search needs
 
-module _ (c : tie.After-s) where
-  abbrev entry : tie.Start
-  entry = c .before .before .before .before .before
-
-  found : let a = entry .args in located (heapView (a .t) (a .m) (heapOf [] (a .table .now))) (a .p) ≡ Inside (c .s .given .0 .0) (c .s .given .0 .1 .0)
-  found = sym (c .before .before .locate .ensures) ∙ c .s .given .1
-
-  within : Within (entry .args .t) (entry .args .m) (c .s .given .0 .0) (c .s .given .0 .1 .0) (entry .args .p)
-  unfolding argumentRules
-  within = spot _ _ _ (entry .args .arena .now) (entry .args .table .now) (entry .pre) _ found (λ h. h)
-
 left-in-requires : tie.Need-left-in-requires
-left-in-requires c κs = left-asks (within (c .before))
+left-in-requires c κs = left-asks (home (c .before))
 
 accepted-requires : tie.Need-accepted-requires
 accepted-requires c κs = search needs
@@ -50,15 +40,13 @@ accepted-requires c κs = search needs
 returns : tie.Need-returns
 unfolding stateRules
 returns c =
-    let k = c .before .before in
-    ap (λ x. outcome x (origin k .args .arena .now) (origin k .args .table .now)) (c .refused .ensures)
-    ∙ home-refused _ _ _ _ _ (origin k .pre) _ _ refl _ (refusal k)
+    let k : tie.After-number = c .before .before in
+    led-refused (at-refusal k .pre) _ (k .before .before .locate .ensures) _ refl (k .number .given .1) (c .refused .ensures)
 
 returns-2 : tie.Need-returns-2
 returns-2 c =
-    let k = c .before .before .before in
-    ap (λ x. outcome x (entry k .args .arena .now) (entry k .args .table .now)) (c .accepted .ensures)
-    ∙ left-done _ _ _ (entry k .args .table .now) _ (found k) _ (entry k .pre) (c .before .left-in .ensures)
+    let counted : tie.After-left-in = c .before in
+    left-done (home (counted .before .before)) (counted .left-in .ensures) (c .accepted .ensures)
 
 pub left-spec : {M : Type 1} → statement M
 left-spec =

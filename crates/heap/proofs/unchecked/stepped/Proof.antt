@@ -1,4 +1,5 @@
--- `unchecked::stepped` meets its contract.
+-- The code's sum wraps, and its comparisons say where it lies: inside by the check, in reach before the block or past it, or beyond (the four laws `stepped-..`
+-- of Stepping). The block's end and the reach past it lie in the lower half (`end-low`), so nothing overflows.
 use Prim.Native.Nat.{_+_, _^_, _<_}
 use mathlib.Core.Path.{_≡_, _∙_, sym}
 use mathlib.Core.Bool.{false}
@@ -7,7 +8,7 @@ use native.Mathlib.Omega.{arith}
 use borrow.Author.Needs.{needs}
 use borrow.Author.Tests.{ltb-true, ltb-false}
 use Rattle.blocks.specs.Pointers.{wrappedSum, checkBits}
-use Rattle.heap.specs.Judging.{Holding}
+use Rattle.heap.specs.Inner.{Holding}
 use Rattle.heap.proofs.Stepping.{reach-small, end-low, stepped-inside, stepped-before, stepped-past, stepped-beyond}
 use Rattle.heap.proofs.unchecked.stepped.Statement.{statement}
 use Rattle.heap.proofs.unchecked.stepped.Tie as tie
@@ -23,8 +24,10 @@ accepted-requires c κs = search needs
 
 returns : tie.Need-returns
 returns c =
-    let k = c .before .before in
-    c .accepted .ensures ∙ stepped-inside _ _ _ _ _ _ _ (k .before .before .pre) (k .before .wrapping-add-u32 .ensures) (sym (k .passes .ensures .0) ∙ c .before .if1 .taken)
+    let judged : tie.After-passes = c .before .before in
+    let summed : tie.After-wrapping-add-u32 = judged .before in
+    c .accepted .ensures
+    ∙ stepped-inside _ _ _ _ _ _ _ (summed .before .pre) (summed .wrapping-add-u32 .ensures) (sym (judged .passes .ensures .0) ∙ c .before .if1 .taken)
 
 size-of-requires : tie.Need-size-of-requires
 size-of-requires c κs = search needs

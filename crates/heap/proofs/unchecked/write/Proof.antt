@@ -1,29 +1,25 @@
--- `unchecked::write` meets its contract.
-use Prim.Native.Nat.{ℕ, _+_, _-_, _≤_}
-use mathlib.Core.Path.{_≡_, _∙_, refl, sym, ap, ap₂}
-use mathlib.Core.List.{[]}
+-- `locate` leads p to a number, which refuses the call (`led-refused`), or to a block. Where fewer bytes are left in it than the width the call is refused
+-- (`short-refused`), and else they lie in the arena (`room`), and v is stored there (`write-done`).
+use mathlib.Core.Path.{refl}
 use native.Mathlib.Omega.{arith}
 use borrow.Author.Needs.{needs}
-use lib.ListN.{length}
-use Rattle.common.specs.Bytes.{over, bytesOf}
-use Rattle.blocks.specs.Blocks.{base}
 use Rattle.heap.specs.Rules.{argumentRules, stateRules}
-use Rattle.heap.specs.Heaps.{heapOf, heapView, outcome, entered}
-use Rattle.heap.specs.Judging.{located}
-use Rattle.heap.specs.Effects.{value, stored}
-use Rattle.heap.specs.declared.refusals.Located.the-variants.{Refused, Inside}
-use Rattle.heap.proofs.Accesses.{Within, left-asks, at-base, room, narrow, home-refused, spot, short-refused, long-accepted}
-use Rattle.heap.proofs.Judging.{argument-clear}
+use Rattle.heap.specs.declared.Call.the-variants.{Write}
+use Rattle.heap.proofs.Accesses.{Led, led-refused, led, left-asks, at-base, room, narrow, short-refused, write-done}
 use Rattle.heap.proofs.unchecked.write.Statement.{statement}
 use Rattle.heap.proofs.unchecked.write.Tie as tie
 
--- where the pointer is refused
-module _ (c : tie.After-number) where
-  abbrev origin : tie.Start
-  origin = c .before .before .before .before .before
+abbrev at-refusal : tie.After-number → tie.Start
+at-refusal c = c .before .before .before .before .before
 
-  refusal : let a = origin .args in located (heapView (a .t) (a .m) (heapOf [] (a .table .now))) (a .p) ≡ Refused (c .number .given .0 .0)
-  refusal = sym (c .before .before .locate .ensures) ∙ c .number .given .1
+-- where p leads to a block
+module _ (c : tie.After-s) where
+  abbrev entry : tie.Start
+  entry = c .before .before .before .before .before
+
+  home : let a = entry .args in Led (a .t) (a .m) (Write (a .p) (a .w) (a .v)) (a .arena .now) (a .table .now) (a .p) (c .s .given .0 .0) (c .s .given .0 .1 .0)
+  unfolding argumentRules
+  home = led (entry .pre) _ (c .before .before .locate .ensures) (λ h. h) (c .s .given .1)
 
 locate-requires : tie.Need-locate-requires
 locate-requires c κs = search needs
@@ -37,19 +33,8 @@ refused-requires c κs = search needs
 enum-known-s : tie.Need-enum-known-s
 enum-known-s c = search needs
 
-module _ (c : tie.After-s) where
-  abbrev entry : tie.Start
-  entry = c .before .before .before .before .before
-
-  found : let a = entry .args in located (heapView (a .t) (a .m) (heapOf [] (a .table .now))) (a .p) ≡ Inside (c .s .given .0 .0) (c .s .given .0 .1 .0)
-  found = sym (c .before .before .locate .ensures) ∙ c .s .given .1
-
-  within : Within (entry .args .t) (entry .args .m) (c .s .given .0 .0) (c .s .given .0 .1 .0) (entry .args .p)
-  unfolding argumentRules
-  within = spot _ _ _ (entry .args .arena .now) (entry .args .table .now) (entry .pre) _ found (λ h. h)
-
 left-in-requires : tie.Need-left-in-requires
-left-in-requires c κs = left-asks (within (c .before))
+left-in-requires c κs = left-asks (home (c .before))
 
 cast-if1 : tie.Need-cast-if1
 cast-if1 c = search needs
@@ -60,20 +45,17 @@ refused-requires-2 c κs = search needs
 returns : tie.Need-returns
 unfolding stateRules
 returns c =
-    let k = c .before .before .before .before in
-    ap (λ x. outcome x (entry k .args .arena .now) (entry k .args .table .now)) (c .refused2 .ensures)
-    ∙ short-refused _ _ _ _ _ (entry k .pre) _ (found k) _ refl (omega arith)
+    let k : tie.After-s = c .before .before .before .before in
+    short-refused (home k) _ refl (omega arith) (c .refused2 .ensures)
 
 offset-requires : tie.Need-offset-requires
-offset-requires c κs = at-base (within (c .before .before .before .before))
+offset-requires c κs = let k : tie.After-s = c .before .before .before .before in at-base (home k)
 
 write-number-requires : tie.Need-write-number-requires
 unfolding argumentRules
 write-number-requires c κs =
-    let k = c .before .before .before .before .before in
-    let x : c .offset .result + entry k .args .w ≤ length (entry k .args .arena .now) =
-    omega (arith, room (within k) (entry k .args .w) (omega arith), entry k .pre .sound .size) in
-    (narrow _ (argument-clear _ _ _ _ _ (entry k .pre) 11), x)
+    let k : tie.After-s = c .before .before .before .before .before in
+    (narrow (entry k .pre) _ refl, room (home k) (c .offset .ensures) (entry k .args .w) (omega arith))
 
 accepted-requires : tie.Need-accepted-requires
 accepted-requires c κs = search needs
@@ -81,22 +63,18 @@ accepted-requires c κs = search needs
 returns-2 : tie.Need-returns-2
 unfolding stateRules
 returns-2 c =
-    let k = c .before .before in
-    ap (λ x. outcome x (origin k .args .arena .now) (origin k .args .table .now)) (c .refused .ensures)
-    ∙ home-refused _ _ _ _ _ (origin k .pre) _ _ refl _ (refusal k)
+    let k : tie.After-number = c .before .before in
+    led-refused (at-refusal k .pre) _ (k .before .before .locate .ensures) _ refl (k .number .given .1) (c .refused .ensures)
 
 same-length : tie.Need-same-length
 same-length c = search needs
 
 returns-3 : tie.Need-returns-3
-unfolding stateRules value stored entered
 returns-3 c =
-    let k = c .before .before .before .before .before .before .before .before .before in
-    let n = c .before .before .before in
-    let b : n .write-number .last .0 ≡ over (entry k .args .arena .now) (entry k .args .p - base) (bytesOf (entry k .args .w) (entry k .args .v)) =
-    n .write-number .ensures ∙ ap (λ (x : ℕ). over (entry k .args .arena .now) x (bytesOf (entry k .args .w) (entry k .args .v))) (n .before .offset .ensures) in
-    ap₂ (λ x y. outcome x y (entry k .args .table .now)) (c .accepted .ensures) b
-    ∙ long-accepted _ _ _ _ _ (entry k .pre) _ (found k) _ refl (omega arith)
+    let put : tie.After-write-number = c .before .before .before in
+    let placed : tie.After-offset = put .before in
+    let k : tie.After-s = placed .before .before .before .before .before in
+    write-done (placed .offset .ensures) (omega arith) (home k) (put .write-number .ensures) (c .accepted .ensures)
 
 pub write-spec : {M : Type 1} → statement M
 write-spec =
