@@ -1,5 +1,7 @@
 -- What the proofs of several functions and of the crates above use.
+pub mod Computing
 pub mod Edges
+pub mod Vectors
 pub mod Settling
 pub mod Judging
 pub mod Lengths

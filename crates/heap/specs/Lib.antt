@@ -8,4 +8,3 @@ pub mod Answers
 pub mod Operations
 pub mod Registers
 pub mod Edges
-pub mod Vectors

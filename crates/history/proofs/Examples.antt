@@ -8,18 +8,13 @@ use native.Mathlib.Decide.{decLt}
 use native.Mathlib.Omega.{arith}
 use lib.ListN.{replicate, getD}
 use lib.Seq.{getD-append-add}
-use Rattle.common.specs.Bytes.{bigEndian, bytesOf, over, copied}
 use Rattle.blocks.specs.Blocks.{base, floor, Block, holds}
-use Rattle.blocks.specs.Tables.{any, torn, bad, damagedBy, referentIn}
-use Rattle.blocks.specs.Pointers.{sought, signed, checkBits, within, inReach}
-use Rattle.blocks.specs.Orders.{orderOf, neededOrder}
-use Rattle.blocks.specs.Placing.{allFree, rangeStart, freeRange, maximal, lowest, atOrder, fromOrder, placeIn}
-use Rattle.heap.specs.Rules.{argumentRules, stateRules, rules}
-use Rattle.heap.specs.Effects.{value, stored}
-use Rattle.heap.specs.Heaps.{Heap, heapOf, insideByCheck, entered, heapStep, heapCall}
+use Rattle.blocks.specs.Tables.{any, referentIn}
+use Rattle.heap.specs.Heaps.{Heap, heapOf, heapCall}
 use Rattle.heap.specs.declared.Answer.{Answer}
 use Rattle.heap.specs.declared.Call.{Call}
 use Rattle.heap.specs.declared.Call.the-variants.{Get, Give, Step, Read, Write, Left, Copy, Fill}
+use Rattle.heap.proofs.Computing.{computed}
 use Rattle.heap.proofs.Settling.{answer}
 use Rattle.history.specs.Runs.{Run, run}
 use Rattle.history.specs.Noninterference.{reveals, sourceIn, noneBarred, EqualOutside, Twins, Undisclosed}
@@ -40,8 +35,7 @@ abbrev damaged-heap : ℕ → Heap
 damaged-heap x = heapOf (arena x) (5 ∷ 0 ∷ 5 ∷ 5 ∷ [])
 
 results : List Call → Heap → Run Heap
-unfolding bigEndian bytesOf over copied floor any torn bad damagedBy referentIn sought signed checkBits within inReach orderOf neededOrder allFree rangeStart
-    freeRange maximal lowest atOrder fromOrder placeIn argumentRules stateRules rules value stored insideByCheck entered heapStep heapCall run
+unfolding computed run
 results cs h = run heapCall cs h
 
 -- the list has no barred call before the hidden block is given back
@@ -76,7 +70,7 @@ Untold x =
     ≡ record { answers = their-answers; last = heapOf (replicate 16 0 ++ (replicate 16 x ++ (0 ∷ 0 ∷ replicate 30 9))) (4 ∷ 0 ∷ 5 ∷ 5 ∷ []) })
 
 untold : Untold 1 × Untold 2
-unfolding Untold unbarred results given-back their-answers
+unfolding Untold unbarred given-back their-answers
 untold = ((refl, refl, refl), (refl, refl, refl))
 
 -- a read that shows a byte of the block, and a copy that carries one out, are barred, and tell the two heaps apart
@@ -87,7 +81,7 @@ Told x =
     × (results (Copy 65568 65567 2 ∷ []) (heap x) .last .arena ≡ replicate 32 x ++ (x ∷ replicate 31 9))
 
 told : Told 1 × Told 2
-unfolding Told unbarred results
+unfolding Told unbarred
 told = ((refl, refl, refl, refl), (refl, refl, refl, refl))
 
 -- ---- the claim used, on a list that never gives the block back
@@ -120,19 +114,19 @@ guest : List Call
 guest = Get 1 ∷ Step 65536 40 ∷ Read 65568 2 ∷ Write 65537 1 7 ∷ Left 65540 ∷ Copy 65536 65568 4 ∷ Fill 65540 3 2 ∷ Give 65568 ∷ []
 
 guest-by-bytes : Undisclosed hidden (heap 1) (heap 2) guest
-unfolding results unbarred guest
+unfolding unbarred guest
 guest-by-bytes =
     let free : unbarred by-bytes guest (heap 1) ≡ true = refl in
     noninterference .by-bytes hidden (heap 1) (heap 2) guest twins free
 
 guest-by-pointers : Undisclosed hidden (heap 1) (heap 2) guest
-unfolding results unbarred guest
+unfolding unbarred guest
 guest-by-pointers =
     let free : unbarred by-pointers guest (heap 1) ≡ true = refl in
     noninterference .by-pointers hidden (heap 1) (heap 2) guest twins free
 
 guest-on-damage : Undisclosed hidden (damaged-heap 1) (damaged-heap 2) guest
-unfolding results unbarred guest
+unfolding unbarred guest
 guest-on-damage =
     let free : unbarred by-bytes guest (damaged-heap 1) ≡ true = refl in
     noninterference .by-bytes hidden (damaged-heap 1) (damaged-heap 2) guest damaged-twins free

@@ -82,7 +82,7 @@ played-next m c cs place l out h =
     ap (replayed 0 (r .last .bytes) (tableOf slotOrder m (r .last .pairs))) (answers-next out place (stepOf m c l .answer) (r .answers) h)
 
 -- after i calls: a ledger agrees with the heap, and what it gives for the calls to come is what the whole list gives
-pub record Going (m : ℕ) (calls out₀ a tab out : List ℕ) (i : ℕ) : Type 0 where
+pub record Replays (m : ℕ) (calls out₀ a tab out : List ℕ) (i : ℕ) : Type 0 where
   pub orders : Orders slotOrder m
   pub within : i ≤ callCount calls
   pub room : answerLength * callCount calls ≤ length out
@@ -93,9 +93,9 @@ pub record Going (m : ℕ) (calls out₀ a tab out : List ℕ) (i : ℕ) : Type 
       played m (callsFrom calls (i * callLength) (callCount calls - i)) (i * answerLength) ledger out
       ≡ played m (callsOf calls) 0 (emptyLedger m) out₀
 
-pub going-start : (m : ℕ) (calls a tab out a′ tab′ : List ℕ) (x : Answer) → Playable m calls a tab out → outcome x a′ tab′ ≡ heapFresh (heapOf a tab)
-    → Going m calls out a′ tab′ out 0
-going-start m calls a tab out a′ tab′ x p e =
+pub replays-start : (m : ℕ) (calls a tab out a′ tab′ : List ℕ) (x : Answer) → Playable m calls a tab out → outcome x a′ tab′ ≡ heapFresh (heapOf a tab)
+    → Replays m calls out a′ tab′ out 0
+replays-start m calls a tab out a′ tab′ x p e =
     let s = p .sized in
     let h : heapOf a′ tab′ ≡ freshHeap m =
     ap (λ (o : Outcome Heap). o .state) e ∙ fresh-made m (heapOf a tab) (s .low) (s .high) (s .size) (s .slots) in
@@ -109,14 +109,14 @@ going-start m calls a tab out a′ tab′ x p e =
       rest = rw sub-zero;
     }
 
-module _ {m : ℕ} {calls out₀ a tab out : List ℕ} {i : ℕ} (g : Going m calls out₀ a tab out i) where
-  pub going-sound : Sound slotOrder m a tab
-  going-sound = agree-sound (g .orders) (heapOf a tab) (g .ledger) (g .agree)
+module _ {m : ℕ} {calls out₀ a tab out : List ℕ} {i : ℕ} (g : Replays m calls out₀ a tab out i) where
+  pub replays-sound : Sound slotOrder m a tab
+  replays-sound = agree-sound (g .orders) (heapOf a tab) (g .ledger) (g .agree)
 
-  pub going-step : i < callCount calls → (c : Call) → c ≡ callAt calls (i * callLength) → (x : Answer) (a′ tab′ out′ : List ℕ)
+  pub replays-step : i < callCount calls → (c : Call) → c ≡ callAt calls (i * callLength) → (x : Answer) (a′ tab′ out′ : List ℕ)
       → outcome x a′ tab′ ≡ heapStep slotOrder m c (heapOf a tab) → out′ ≡ over out (i * answerLength) (answerBytes x) → length out′ ≡ length out
-      → Going m calls out₀ a′ tab′ out′ (i + 1)
-  going-step l c p x a′ tab′ out′ q u k =
+      → Replays m calls out₀ a′ tab′ out′ (i + 1)
+  replays-step l c p x a′ tab′ out′ q u k =
       let s = step-same (g .orders) (heapOf a tab) (g .ledger) (g .agree) c in
       let cs : List Call = callsFrom calls ((i + 1) * callLength) (callCount calls - (i + 1)) in
       let here : callsFrom calls (i * callLength) (callCount calls - i) ≡ c ∷ cs =
@@ -137,9 +137,9 @@ module _ {m : ℕ} {calls out₀ a tab out : List ℕ} {i : ℕ} (g : Going m ca
             ∙ ap (λ (ds : List Call). played m ds (i * answerLength) (g .ledger) out) (sym here) ∙ g .rest);
       }
 
-  pub going-end : callCount calls ≤ i → replayed 0 a tab out ≡ played m (callsOf calls) 0 (emptyLedger m) out₀
+  pub replays-end : callCount calls ≤ i → replayed 0 a tab out ≡ played m (callsOf calls) 0 (emptyLedger m) out₀
   unfolding callsFrom
-  going-end l =
+  replays-end l =
       let z : callCount calls - i ≡ 0 = omega arith in
       played-none m a tab (g .ledger) (i * answerLength) out (g .agree)
       ∙ ap (λ (k : ℕ). played m (callsFrom calls (i * callLength) k) (i * answerLength) (g .ledger) out) (sym z) ∙ g .rest

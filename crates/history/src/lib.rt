@@ -72,7 +72,8 @@ fn refusal(arena: &[u8], table: &[u8], calls: &[u8], out: &[u8]) -> u32
 
 // Carries the calls out on a fresh heap, and stores their answers in `out`, one after the other. What comes out is what the ledger gives.
 pub fn replay(arena: &mut [u8], table: &mut [u8], calls: &[u8], out: &mut [u8]) -> u32
-    ensures { λ r. ⌜ replayed r (now (arena .exit)) (now (table .exit)) (now (out .exit)) ≡ replayOf (now (calls .entry)) (heapOf (now (arena .entry)) (now (table .entry))) (now (out .entry)) ⌝ }
+    ensures { λ r. ⌜ replayed r (now (arena .exit)) (now (table .exit)) (now (out .exit))
+        ≡ replayOf (now (calls .entry)) (heapOf (now (arena .entry)) (now (table .entry))) (now (out .entry)) ⌝ }
 {
     let number = refusal(arena, table, calls, out);
     if number != 0 {

@@ -1,4 +1,5 @@
--- `any_unknown` meets its contract. The loop's invariant: what is asked of all calls is asked of those that are left.
+-- The loop's invariant: what is asked of all calls is asked of those that are left. A call with an unknown operation answers it (`unknown-below`,
+-- `unknown-above`), and any other is passed over (`known-here`).
 use Prim.Native.Nat.{_-_, _*_, _≤_}
 use mathlib.Core.Logic.{inl, inr}
 use mathlib.Core.Path.{_≡_, sym, _∙_}

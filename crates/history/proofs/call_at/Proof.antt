@@ -1,4 +1,5 @@
--- `call_at` meets its contract: each arm of the match makes the call of its operation.
+-- Each arm of the match makes the call of its operation, of the fields that are read before it (`read`); the last is a fill, since no other operation is left
+-- (`fill-is`).
 use Prim.Native.Nat.{ℕ, _+_}
 use mathlib.Core.Path.{_≡_, refl, _∙_}
 use lib.ListN.{getD}

@@ -1,4 +1,5 @@
--- `replay` meets its contract. The loop keeps `Going`: a ledger agrees with the heap, and what it gives for the calls to come is what the list gives.
+-- The loop keeps `Replays`: a ledger agrees with the heap, and what it gives for the calls to come is what the list gives. So at the end the heap is as the
+-- ledger leaves it (`replays-end`), and refused the buffers are as they were (`refused-is`).
 use Prim.Native.Nat.{_-_}
 use mathlib.Core.Path.{_≡_, sym, _∙_}
 use native.Mathlib.Omega.{arith}
@@ -6,25 +7,28 @@ use borrow.Author.Needs.{needs}
 use Rattle.common.specs.Refusals.{first}
 use Rattle.heap.specs.Heaps.{heapOf}
 use Rattle.history.specs.Replaying.{replayRules}
-use Rattle.history.proofs.Replaying.{Playable, playable, refused-is, Going, going-start, going-sound, going-step, going-end, played-is}
+use Rattle.history.proofs.Replaying.{Playable, playable, refused-is, Replays, replays-start, replays-sound, replays-step, replays-end, played-is}
 use Rattle.history.proofs.replay.Statement.{statement}
 use Rattle.history.proofs.replay.Tie as tie
 
 abbrev Inv-loop : tie.InvT-loop
-Inv-loop arena₀ table₀ calls out₀ number m n i₀ arena table out i = Going m calls out₀ arena table out i
+Inv-loop arena₀ table₀ calls out₀ number m n i₀ arena table out i = Replays m calls out₀ arena table out i
 
 abbrev μ-loop : tie.MeasureT-loop
 μ-loop arena₀ table₀ calls out₀ number m n i₀ arena table out i = n - i
 
--- the places on the path
+-- the places on the path, each by an earlier one
 abbrev at-first : tie.After-refusal Inv-loop μ-loop → tie.Start Inv-loop μ-loop
-at-first c = c .before .before .before .before .before .before .before .before
+at-first c = let lent : tie.After-refusal-arg Inv-loop μ-loop = c .before .before .before in lent .before .before .before .before .before
 
 abbrev judged : tie.After-order-of Inv-loop μ-loop → tie.After-refusal Inv-loop μ-loop
 judged c = c .before .before .before .before
 
+abbrev freshened : tie.At-loop Inv-loop μ-loop → tie.After-fresh Inv-loop μ-loop
+freshened c = c .before .before .before .before .before
+
 abbrev ordered-before : tie.At-loop Inv-loop μ-loop → tie.After-order-of Inv-loop μ-loop
-ordered-before c = c .before .before .before .before .before .before .before .before
+ordered-before c = freshened c .before .before .before
 
 abbrev in-loop : tie.After-call Inv-loop μ-loop → tie.In-loop Inv-loop μ-loop
 in-loop c = c .before .before .before .before
@@ -74,7 +78,7 @@ loop-holds c =
     let made : tie.After-fresh Inv-loop μ-loop = c .before .before .before .before in
     let o : tie.After-order-of Inv-loop μ-loop = made .before .before .before in
     let f = made .fresh in
-    going-start _ _ (s o .args .arena .now) (s o .args .table .now) _ (f .last .0) (f .last .1 .0) (f .result) (fine o) (f .ensures)
+    replays-start _ _ (s o .args .arena .now) (s o .args .table .now) _ (f .last .0) (f .last .1 .0) (f .result) (fine o) (f .ensures)
 
 mul-call-at : tie.Need-mul-call-at Inv-loop μ-loop
 mul-call-at c = omega arith
@@ -83,7 +87,7 @@ call-at-requires : tie.Need-call-at-requires Inv-loop μ-loop
 call-at-requires c κs = omega arith
 
 call-requires : tie.Need-call-requires Inv-loop μ-loop
-call-requires c κs = going-sound (c .before .before .before .before .loop .inv)
+call-requires c κs = replays-sound (c .before .before .before .before .loop .inv)
 
 -- the calls are fewer than the bytes of a slice can be
 mul-store : tie.Need-mul-store Inv-loop μ-loop
@@ -103,14 +107,14 @@ loop-again c =
     let out = stored c .store in
     let k : tie.After-call Inv-loop μ-loop = called (stored c .before) in
     let l : tie.In-loop Inv-loop μ-loop = in-loop k in
-    going-step (l .before .loop .inv) (l .loop-test .taken) (k .before .call-at .result) (k .before .call-at .ensures) (k .call .result)
+    replays-step (l .before .loop .inv) (l .loop-test .taken) (k .before .call-at .result) (k .before .call-at .ensures) (k .call .result)
     (k .call .last .0) (k .call .last .1 .0) (out .last .0) (k .call .ensures) (out .ensures) (out .kept .0)
 
 same-length-4 : tie.Need-same-length-4 Inv-loop μ-loop
-same-length-4 c = going-sound (c .before .loop .inv) .size ∙ sym (fine (ordered-before (c .before)) .sized .size)
+same-length-4 c = replays-sound (c .before .loop .inv) .size ∙ sym (fine (ordered-before (c .before)) .sized .size)
 
 same-length-5 : tie.Need-same-length-5 Inv-loop μ-loop
-same-length-5 c = going-sound (c .before .loop .inv) .slots ∙ sym (fine (ordered-before (c .before)) .sized .slots)
+same-length-5 c = replays-sound (c .before .loop .inv) .slots ∙ sym (fine (ordered-before (c .before)) .sized .slots)
 
 same-length-6 : tie.Need-same-length-6 Inv-loop μ-loop
 same-length-6 c = c .before .loop .inv .same
@@ -119,7 +123,7 @@ returns-2 : tie.Need-returns-2 Inv-loop μ-loop
 returns-2 c =
     let o : tie.After-order-of Inv-loop μ-loop = ordered-before (c .before) in
     let a = s o .args in
-    going-end (c .before .loop .inv) (c .loop-test .left)
+    replays-end (c .before .loop .inv) (c .loop-test .left)
     ∙ played-is _ (a .calls .now) (a .arena .now) (a .table .now) (a .out .now) (fine o) (accepted o)
 
 pub replay-spec : {M : Type 1} → statement M

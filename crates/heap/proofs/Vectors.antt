@@ -1,0 +1,122 @@
+-- Outside vectors on the definitions: direct calls, pokes into the table between them, and both buffers at the end. Then lists of our own. To unfold `holdAt`
+-- is to unfold all that it computes by.
+use Prim.Native.Nat.{ℕ}
+use mathlib.Core.Path.{_≡_, refl}
+use mathlib.Core.Bool.{Bool, true, false, _&&_}
+use mathlib.Core.List.{List, [], _∷_, _++_}
+use lib.Dec.{eqb}
+use lib.ListN.{set, replicate}
+use Rattle.heap.specs.Rules.{addressRules}
+use Rattle.heap.specs.Heaps.{Heap, heapOf, heapCall, heapFresh, freshHeap, checkStep, heapCheck, pointerNumber, shown}
+use Rattle.heap.specs.declared.Answer.{Answer}
+use Rattle.heap.specs.declared.Call.{Call}
+use Rattle.heap.specs.declared.Call.the-variants.{Get, Give, Step, Read, Write, Left, Copy, Fill}
+use Rattle.heap.proofs.Computing.{computed}
+
+-- a line of a vector: a call with its number and value, a fresh, a check, a show with its number and bytes, an entry overwritten, a buffer
+data Line : Type 0 where
+  answers : Call → ℕ → ℕ → Line
+  freshens : ℕ → Line
+  checks : ℕ → ℕ → ℕ → ℕ → Line
+  shows : ℕ → ℕ → List ℕ → Line
+  pokes : ℕ → ℕ → Line
+  arenaIs tableIs : List ℕ → Line
+
+same : List ℕ → List ℕ → Bool
+same [] [] = true
+same [] (y ∷ ys) = false
+same (x ∷ xs) [] = false
+same (x ∷ xs) (y ∷ ys) = eqb x y && same xs ys
+
+is : Answer → ℕ → ℕ → Bool
+is x n v = eqb (x .number) n && eqb (x .value) v
+
+-- every line is as it should be
+holdAt : List Line → Heap → Bool
+unfolding computed addressRules checkStep heapCheck heapFresh shown same is
+holdAt [] h = true
+holdAt (answers c n v ∷ ls) h = is (heapCall c h .answer) n v && holdAt ls (heapCall c h .state)
+holdAt (freshens n ∷ ls) h = is (heapFresh h .answer) n 0 && holdAt ls (heapFresh h .state)
+holdAt (checks p i n v ∷ ls) h = is (heapCheck p i h) n v && holdAt ls h
+holdAt (shows p n bs ∷ ls) h = eqb (pointerNumber h p) n && (same (shown p h) bs && holdAt ls h)
+holdAt (pokes i v ∷ ls) h = holdAt ls (heapOf (h .arena) (set (h .table) i v))
+holdAt (arenaIs bs ∷ ls) h = same (h .arena) bs && holdAt ls h
+holdAt (tableIs bs ∷ ls) h = same (h .table) bs && holdAt ls h
+
+calls-047 : List Line
+calls-047 =
+    answers (Fill 65533 117 16) 22 0 ∷ shows 65559 22 [] ∷ answers (Give 65581) 22 0 ∷ shows 65585 22 [] ∷ answers (Get 64) 0 65536
+    ∷ shows 65543 0 (replicate 57 0)
+    ∷ answers (Give 262146) 22 0
+    ∷ shows 65536 0 (replicate 64 0)
+    ∷ pokes 0 128 ∷ checks 65520 4294967217 20 0 ∷ pokes 0 6 ∷ answers (Step 65549 4294967268) 24 0
+    ∷ shows 65536 0 (replicate 64 0)
+    ∷ answers (Get 17) 21 0
+    ∷ shows 65544 0 (replicate 56 0)
+    ∷ answers (Read 65536 4) 0 0 ∷ shows 2147745774 13 [] ∷ answers (Read 65528 1) 22 0
+    ∷ shows 65536 0 (replicate 64 0)
+    ∷ answers (Write 262152 3 955000842) 11 0
+    ∷ shows 65536 0 (replicate 64 0)
+    ∷ freshens 0 ∷ shows 65536 22 [] ∷ answers (Give 65552) 22 0 ∷ shows 65544 22 [] ∷ answers (Write 65536 4 65536) 22 0 ∷ shows 65536 22 []
+    ∷ freshens 0 ∷ shows 2147745778 13 [] ∷ answers (Step 65566 9) 22 0 ∷ shows 65588 22 [] ∷ answers (Read 65536 0) 11 0 ∷ shows 65536 22 []
+    ∷ answers (Give 65534) 22 0 ∷ shows 65545 22 [] ∷ answers (Give 65536) 22 0 ∷ shows 65528 22 [] ∷ answers (Give 65536) 22 0
+    ∷ shows 65544 22 [] ∷ pokes 1 0 ∷ answers (Get 1) 0 65536 ∷ pokes 1 0 ∷ answers (Get 37) 21 0 ∷ answers (Get 17) 0 65568 ∷ shows 1 22 []
+    ∷ answers (Give 65536) 0 0
+    ∷ shows 65574 0 (replicate 26 0) ∷ pokes 1 128
+    ∷ answers (Give 65568) 20 0 ∷ pokes 1 0 ∷ answers (Get 16) 0 65536 ∷ shows 3584167078 13 [] ∷ answers (Give 65570) 23 0
+    ∷ shows 65551 0 (0 ∷ []) ∷ checks 65519 17 22 0 ∷ shows 2147549262 13 [] ∷ answers (Get 16) 0 65552
+    ∷ shows 65552 0 (replicate 16 0) ∷ answers (Get 16) 21 0
+    ∷ shows 65541 0 (replicate 11 0) ∷ answers (Step 2147745805 2247109860) 22 0
+    ∷ shows 65536 0 (replicate 16 0) ∷ answers (Write 2147745781 1 65536) 12 0
+    ∷ shows 65519 22 [] ∷ answers (Step 65552 4294967288) 0 2147549192
+    ∷ shows 65536 0 (replicate 16 0) ∷ answers (Get 64) 21 0
+    ∷ shows 65559 0 (replicate 9 0) ∷ answers (Left 65545) 0 7 ∷ shows 65519 22 [] ∷ answers (Get 4) 21 0
+    ∷ shows 65536 0 (replicate 16 0) ∷ answers (Left 262135) 22 0
+    ∷ shows 65585 0 (replicate 15 0) ∷ answers (Write 65549 4 256) 25 0
+    ∷ shows 65568 0 (replicate 32 0)
+    ∷ checks 2147745806 2537399657 13 0 ∷ shows 65598 0 (0 ∷ 0 ∷ []) ∷ answers (Get 1020249951) 10 0
+    ∷ shows 65543 0 (replicate 9 0) ∷ checks 2147549192 4294967279 13 0
+    ∷ shows 65568 0 (replicate 32 0)
+    ∷ answers (Get 17) 21 0 ∷ shows 65536 0 (replicate 16 0) ∷ answers (Fill 65536 86 1) 0 1
+    ∷ shows 65554 0 (replicate 14 0) ∷ answers (Give 65567) 23 0
+    ∷ shows 65545 0 (replicate 7 0) ∷ answers (Left 2147483663) 13 0 ∷ shows 65543 0 (replicate 9 0)
+    ∷ answers (Fill 2147549206 4 65) 13 0 ∷ shows 65552 0 (replicate 16 0)
+    ∷ answers (Write 65568 0 3328590856) 11 0 ∷ shows 2147745796 13 [] ∷ answers (Left 65559) 0 9 ∷ shows 2147549192 13 []
+    ∷ answers (Get 3875554917) 10 0 ∷ shows 2147549205 13 [] ∷ answers (Give 65580) 23 0 ∷ shows 2147549185 13 [] ∷ answers (Get 64) 21 0
+    ∷ shows 65551 0 (0 ∷ []) ∷ answers (Copy 65548 65600 3) 22 0
+    ∷ shows 65536 0 (86 ∷ replicate 15 0)
+    ∷ arenaIs (86 ∷ replicate 63 0)
+    ∷ tableIs (4 ∷ 4 ∷ 5 ∷ 5 ∷ []) ∷ []
+
+holds-047 : holdAt calls-047 (freshHeap 6) ≡ true
+unfolding holdAt calls-047
+holds-047 = refl
+
+-- Request 2: all 64 bytes are filled and given back, then a block of 32 and one of 16 are cut from them. Both are clean, and the rest keeps its bytes.
+clean-blocks : holdAt
+    (answers (Get 50) 0 65536 ∷ answers (Fill 65536 170 64) 0 64 ∷ answers (Give 65536) 0 0 ∷ arenaIs (replicate 64 170) ∷ answers (Get 20) 0 65536
+    ∷ arenaIs (replicate 32 0 ++ replicate 32 170) ∷ answers (Get 16) 0 65568 ∷ answers (Read 65568 4) 0 0 ∷ arenaIs (replicate 48 0 ++ replicate 16 170) ∷ [])
+    (freshHeap 6) ≡ true
+unfolding holdAt
+clean-blocks = refl
+
+-- Request 3: sixteen distinct bytes are copied up by 1; down by 1, cut short at the end of the block; up by more than half; onto themselves; and not at all.
+rotated : holdAt
+    (answers (Get 16) 0 65536 ∷ answers (Write 65536 4 16909060) 0 0 ∷ answers (Write 65540 4 84281096) 0 0 ∷ answers (Write 65544 4 151653132) 0 0
+    ∷ answers (Write 65548 4 219025168) 0 0 ∷ answers (Copy 65537 65536 15) 0 15
+    ∷ shows 65536 0 (1 ∷ 1 ∷ 2 ∷ 3 ∷ 4 ∷ 5 ∷ 6 ∷ 7 ∷ 8 ∷ 9 ∷ 10 ∷ 11 ∷ 12 ∷ 13 ∷ 14 ∷ 15 ∷ []) ∷ answers (Copy 65536 65537 16) 0 15
+    ∷ shows 65536 0 (1 ∷ 2 ∷ 3 ∷ 4 ∷ 5 ∷ 6 ∷ 7 ∷ 8 ∷ 9 ∷ 10 ∷ 11 ∷ 12 ∷ 13 ∷ 14 ∷ 15 ∷ 15 ∷ []) ∷ answers (Copy 65545 65536 16) 0 7
+    ∷ shows 65536 0 (1 ∷ 2 ∷ 3 ∷ 4 ∷ 5 ∷ 6 ∷ 7 ∷ 8 ∷ 9 ∷ 1 ∷ 2 ∷ 3 ∷ 4 ∷ 5 ∷ 6 ∷ 7 ∷ []) ∷ answers (Copy 65536 65536 16) 0 16 ∷ answers (Copy 65537 65536 0) 0 0
+    ∷ arenaIs ((1 ∷ 2 ∷ 3 ∷ 4 ∷ 5 ∷ 6 ∷ 7 ∷ 8 ∷ 9 ∷ 1 ∷ 2 ∷ 3 ∷ 4 ∷ 5 ∷ 6 ∷ 7 ∷ []) ++ replicate 16 0) ∷ [])
+    (freshHeap 5) ≡ true
+unfolding holdAt
+rotated = refl
+
+-- lengths that are no heap's: 48 bytes, and a table of one entry too many
+wrong-arena : holdAt (answers (Get 1) 8 0 ∷ freshens 8 ∷ checks 65536 0 8 0 ∷ shows 65536 8 [] ∷ []) (heapOf (replicate 48 7) (replicate 3 0)) ≡ true
+unfolding holdAt
+wrong-arena = refl
+
+wrong-table : holdAt (answers (Left 65536) 8 0 ∷ freshens 8 ∷ []) (heapOf (replicate 32 7) (replicate 3 0)) ≡ true
+unfolding holdAt
+wrong-table = refl
