@@ -21,7 +21,7 @@ use Rattle.common.proofs.Booleans.{and-right, and-both, or-right}
 use Rattle.blocks.proofs.Checks.{check-holds}
 use Rattle.heap.specs.Views.{View, referentOfPointer}
 use Rattle.heap.specs.Rules.{homeRules, beyond, stateRules, addressRules}
-use Rattle.heap.specs.Effects.{value, stored, Outcome, settled}
+use Rattle.heap.specs.Effects.{pointerAt, value, stored, Outcome, settled}
 use Rattle.heap.specs.Heaps.{Heap, heapOf, heapView, insideByCheck, entered, heapStep, bit, checkStep, outcome}
 use Rattle.heap.specs.Inner.{Sound, Ready, Holding, steppedIn, located}
 use Rattle.heap.specs.declared.Answer.{Answer}
@@ -88,8 +88,8 @@ module _ (t s e h q i r : ℕ) (k : Holding t s e h q) (sum : r ≡ wrappedSum q
       cases
 
   -- where the check passes, or the sum is in reach, it is the exact one
-  exact : r < s + 2 ^ e + reach → natAbs (exactSum q i) ≡ r
-  exact u = ⊎-elim (λ x. ap natAbs x) (λ (n, x, y). absurd (omega (arith, end-low))) cases
+  exact : r < s + 2 ^ e + reach → exactSum q i ≡ pos r
+  exact u = ⊎-elim (λ x. x) (λ (n, x, y). absurd (omega (arith, end-low))) cases
 
   passing : checkBits e h r ≡ true → r < s + 2 ^ e + reach
   passing p =
@@ -161,11 +161,11 @@ module _ {t m : ℕ} {a tab : List ℕ} {p i s e : ℕ} (g : Ready t m (Step p i
       cases b (inReach t (Found s e) x)
       ∙ ap₂ (λ (k v : ℕ). settled k (heapOf a tab) v (heapOf a tab))
       (sym (ready-first t m (Step p i) a tab g ∙ home-first g p (24 when beyond v p i ∷ []) refl l ∙ own-first))
-      (ap (λ (c : Bool). cond c (natAbs x) (markBit + natAbs x)) (sym (inside-is t m a tab p i s e f)))
+      (ap (λ (c : Bool). pointerAt c x) (sym (inside-is t m a tab p i s e f)))
     where
       cases : (c r : Bool)
-          → outcome (cond c (answer 0 (natAbs x)) (cond r (answer 0 (markBit + natAbs x)) (answer 24 0))) a tab
-          ≡ settled (cond (not (c || r)) 24 0) (heapOf a tab) (cond c (natAbs x) (markBit + natAbs x)) (heapOf a tab)
+          → outcome (cond c (answer 0 (pointerAt true x)) (cond r (answer 0 (pointerAt false x)) (answer 24 0))) a tab
+          ≡ settled (cond (not (c || r)) 24 0) (heapOf a tab) (pointerAt c x) (heapOf a tab)
       cases true r = refl
       cases false true = refl
       cases false false = refl

@@ -1,9 +1,9 @@
 -- Document 01, "The eight calls", with requests 2 and 3 of document 02: the value of a call that is not refused, and the bytes that it leaves.
 -- Both are said over a view, for the heap and the ledger alike.
 use Prim.Native.Nat.{ℕ, zero, suc, _+_, _-_, _^_, min}
-use mathlib.Core.Bool.{cond}
+use mathlib.Core.Bool.{Bool, cond}
 use mathlib.Core.List.{List}
-use lib.IntN.{natAbs}
+use lib.IntN.{ℤ, pos, negsuc}
 use lib.ListN.{replicate}
 use Rattle.common.specs.Refusals.{Refusal, first}
 use Rattle.common.specs.Bytes.{bigEndian, bytesOf, over, copied}
@@ -25,10 +25,15 @@ fillCount w p n = min n (leftFrom w p)
 abbrev pub cleared : List ℕ → ℕ → ℕ → List ℕ
 cleared b at e = over b at (replicate (2 ^ e) 0)
 
+-- an exact sum as a pointer: plain where it stays in the referent, else marked. One below 0 is no address: such a step is refused
+abbrev pub pointerAt : Bool → ℤ → ℕ
+pointerAt inside (pos r) = cond inside r (markBit + r)
+pointerAt inside (negsuc n) = 0
+
 unfoldable pub value : Call → View → List ℕ → ℕ
 value (Get n) w b = startFor n w
 value (Give p) w b = 0
-value (Step p i) w b = let r = natAbs (exactSum (address p) i) in cond (w .inside p i) r (markBit + r)
+value (Step p i) w b = pointerAt (w .inside p i) (exactSum (address p) i)
 value (Read p k) w b = bigEndian b (p - base) k
 value (Write p k v) w b = 0
 value (Left p) w b = leftFrom w p

@@ -2,20 +2,20 @@
 -- none of them.
 use Prim.Native.Nat.{ℕ, zero, suc, _+_, _-_, _^_, _≤_, _<_}
 use mathlib.Core.Path.{_≡_}
-use mathlib.Core.Bool.{false, not, cond}
+use mathlib.Core.Bool.{true, false, not, cond}
 use mathlib.Core.List.{List, [], _∷_}
 use lib.Dec.{eqb}
-use lib.IntN.{natAbs}
 use lib.ListN.{length}
 use Rattle.common.specs.Refusals.{_when_, first}
 use Rattle.blocks.specs.Blocks.{base, floor}
 use Rattle.blocks.specs.Tables.{damagedBy}
-use Rattle.blocks.specs.Pointers.{markBit, exactSum, wrappedSum, checkBits, inReach}
+use Rattle.blocks.specs.Pointers.{exactSum, wrappedSum, checkBits, inReach}
 use Rattle.blocks.specs.declared.Referent.{Referent}
 use Rattle.blocks.specs.declared.Referent.the-variants.{Missing, Found}
 use Rattle.blocks.specs.Orders.{orderOf}
 use Rattle.heap.specs.Views.{View, referentOfPointer}
 use Rattle.heap.specs.Rules.{argumentRules, homeRules}
+use Rattle.heap.specs.Effects.{pointerAt}
 use Rattle.heap.specs.Heaps.{heapOf, wrongSizes}
 use Rattle.heap.specs.declared.Answer.{Answer}
 use Rattle.heap.specs.declared.Call.{Call}
@@ -73,5 +73,5 @@ pub record Holding (t s e h q : ℕ) : Type 0 where
 unfoldable pub steppedIn : (t s e h q i : ℕ) → Answer
 steppedIn t s e h q i =
     let z = exactSum q i in
-    cond (checkBits e h (wrappedSum q i)) (record { number = 0; value = natAbs z })
-    (cond (inReach t (Found s e) z) (record { number = 0; value = markBit + natAbs z }) (record { number = 24; value = 0 }))
+    cond (checkBits e h (wrappedSum q i)) (record { number = 0; value = pointerAt true z })
+    (cond (inReach t (Found s e) z) (record { number = 0; value = pointerAt false z }) (record { number = 24; value = 0 }))
