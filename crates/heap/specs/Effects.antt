@@ -50,14 +50,21 @@ stored (Left p) w b = b
 stored (Copy p q n) w b = copied b (p - base) b (q - base) (copyCount w p q n)
 stored (Fill p v n) w b = over b (p - base) (replicate (fillCount w p n) v)
 
+-- the answer of a call that is not refused, and of one that is
+abbrev pub accepted : ℕ → Answer
+accepted v = record { number = 0; value = v }
+
+abbrev pub refused : ℕ → Answer
+refused n = record { number = n; value = 0 }
+
 -- What a call leaves: its answer and the state.
 pub record Outcome (S : Type 0) : Type 0 where
   pub answer : Answer
   pub state : S
 
 abbrev pub settled : {S : Type 0} → ℕ → S → ℕ → S → Outcome S
-settled zero old v new = record { answer = record { number = 0; value = v }; state = new }
-settled (suc n) old v new = record { answer = record { number = suc n; value = 0 }; state = old }
+settled zero old v new = record { answer = accepted v; state = new }
+settled (suc n) old v new = record { answer = refused (suc n); state = old }
 
 -- Judged by the rules: refused, the value is 0 and the old state stays; else the value and the new state.
 abbrev pub judged : {S : Type 0} → List Refusal → S → ℕ → S → Outcome S

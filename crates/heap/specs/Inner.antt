@@ -15,7 +15,7 @@ use Rattle.blocks.specs.declared.Referent.the-variants.{Missing, Found}
 use Rattle.blocks.specs.Orders.{orderOf}
 use Rattle.heap.specs.Views.{View, referentOfPointer}
 use Rattle.heap.specs.Rules.{argumentRules, homeRules}
-use Rattle.heap.specs.Effects.{pointerAt}
+use Rattle.heap.specs.Effects.{pointerAt, accepted, refused}
 use Rattle.heap.specs.Heaps.{heapOf, wrongSizes}
 use Rattle.heap.specs.declared.Answer.{Answer}
 use Rattle.heap.specs.declared.Call.{Call}
@@ -73,5 +73,4 @@ pub record Holding (t s e h q : ℕ) : Type 0 where
 unfoldable pub steppedIn : (t s e h q i : ℕ) → Answer
 steppedIn t s e h q i =
     let z = exactSum q i in
-    cond (checkBits e h (wrappedSum q i)) (record { number = 0; value = pointerAt true z })
-    (cond (inReach t (Found s e) z) (record { number = 0; value = pointerAt false z }) (record { number = 24; value = 0 }))
+    cond (checkBits e h (wrappedSum q i)) (accepted (pointerAt true z)) (cond (inReach t (Found s e) z) (accepted (pointerAt false z)) (refused 24))

@@ -22,12 +22,12 @@ use Rattle.blocks.proofs.Sets.{held-high, missing-none, member-found}
 use Rattle.blocks.proofs.Slots.{slots-of}
 use Rattle.heap.specs.Views.{View}
 use Rattle.heap.specs.Rules.{rules, argumentRules, stateRules, addressRules}
-use Rattle.heap.specs.Effects.{value, stored, Outcome, judged}
+use Rattle.heap.specs.Effects.{value, stored, Outcome, judged, accepted}
 use Rattle.heap.specs.Heaps.{Heap, heapOf, heapView, entered, heapStep, checkStep, bit}
 use Rattle.heap.specs.Changes.{keeps}
 use Rattle.heap.specs.declared.Call.the-variants.{Step}
 use Rattle.history.specs.Ledgers.{Ledger, ledgerView}
-use Rattle.history.specs.Demand3.{accepted, distance}
+use Rattle.history.specs.Demand3.{distance}
 use Rattle.history.proofs.Agreement.{Proper, none, more, Orders, Agree}
 use Rattle.history.proofs.Pairs.{holds-by, proper-set}
 use Rattle.history.proofs.Simulation.{view-same}

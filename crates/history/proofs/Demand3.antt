@@ -18,12 +18,12 @@ use Rattle.heap.specs.Views.{slotOrder}
 use Rattle.heap.specs.Heaps.{heapCall, freshHeap, checkStep, heapCheck}
 use Rattle.heap.specs.declared.Call.{Call}
 use Rattle.history.specs.Ledgers.{emptyLedger}
-use Rattle.history.specs.Runs.{heapRun, ledgerRun}
+use Rattle.history.specs.CallLists.{heapRun, ledgerRun}
 use Rattle.history.specs.Histories.{liveBy}
 use Rattle.history.specs.Demand3.{after, live, Demand3}
 use Rattle.history.proofs.Agreement.{Proper, Orders}
 use Rattle.history.proofs.Pairs.{proper-set}
-use Rattle.history.proofs.Runs.{fresh-agree, slot-orders, fresh-is, order-same, call-steps, Alike, run-same}
+use Rattle.history.proofs.CallLists.{fresh-agree, slot-orders, fresh-is, order-same, call-steps, Alike, run-same}
 use Rattle.history.proofs.Live.{lives}
 use Rattle.history.proofs.Checking.{places-apart, check-is, recovers}
 use Rattle.history.proofs.Room.{room}

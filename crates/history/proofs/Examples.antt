@@ -16,7 +16,7 @@ use Rattle.heap.specs.declared.Call.{Call}
 use Rattle.heap.specs.declared.Call.the-variants.{Get, Give, Step, Read, Write, Left, Copy, Fill}
 use Rattle.heap.proofs.Computing.{computed}
 use Rattle.heap.proofs.Settling.{answer}
-use Rattle.history.specs.Runs.{Run, run}
+use Rattle.history.specs.CallLists.{Run, run}
 use Rattle.history.specs.Noninterference.{reveals, sourceIn, noneBarred, EqualOutside, Twins, Undisclosed}
 use Rattle.history.proofs.Pairs.{holds-by}
 use Rattle.history.proofs.Noninterference.{noninterference}

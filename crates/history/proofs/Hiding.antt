@@ -23,15 +23,14 @@ use Rattle.blocks.proofs.Slots.{block}
 use Rattle.blocks.proofs.Tables.{none-passes}
 use Rattle.heap.specs.Views.{View, leftFrom}
 use Rattle.heap.specs.Rules.{rules, argumentRules, stateRules, dead}
-use Rattle.heap.specs.Effects.{copyCount, value, stored}
+use Rattle.heap.specs.Effects.{copyCount, value, stored, accepted}
 use Rattle.heap.specs.Changes.{Change, adds, removes, keeps, changeOf}
 use Rattle.heap.specs.declared.Call.{Call}
 use Rattle.heap.specs.declared.Call.the-variants.{Get, Give, Step, Read, Write, Left, Copy, Fill}
 use Rattle.common.proofs.Refusals.{clear}
 use Rattle.heap.proofs.Changes.{Changing, gets, gives-back, keeps-all, changing}
 use Rattle.history.specs.Ledgers.{Ledger, ledgerView, without, kept}
-use Rattle.history.specs.Histories.{gives, givesBack}
-use Rattle.history.specs.Demand3.{accepted}
+use Rattle.history.specs.Histories.{removesAt, givesBack}
 use Rattle.history.specs.Noninterference.{reveals, EqualOutside}
 use Rattle.history.proofs.Agreement.{Proper, Orders}
 use Rattle.history.proofs.Pairs.{whole, without-in, without-out, without-live, added-found, added-out}
@@ -80,14 +79,14 @@ module _ {t m : ℕ} (os : Orders t m) (l : Ledger) (proper : Proper t m (l .pai
   -- ---- the pairs that an accepted call leaves
 
   -- a block stays until its start is given
-  kept-found : (c : Change) (s e : ℕ) → gives c s ≡ false → referentOf bs s ≡ Found s e → referentOf (kept c w bs) s ≡ Found s e
+  kept-found : (c : Change) (s e : ℕ) → removesAt c s ≡ false → referentOf bs s ≡ Found s e → referentOf (kept c w bs) s ≡ Found s e
   unfolding kept
   kept-found (adds n) s e g h = added-found bs (added n) s s e h
   kept-found (removes p) s e g h = without-out proper p s (λ o y. let z : p ≡ s = cc in eqb-false p s g z) ∙ h
   kept-found keeps s e g h = h
 
   -- once it is given, no block holds an address of it
-  given-back : (c : Change) (s e : ℕ) → gives c s ≡ true → referentOf bs s ≡ Found s e
+  given-back : (c : Change) (s e : ℕ) → removesAt c s ≡ true → referentOf bs s ≡ Found s e
       → (q : ℕ) → missing (referentOf (kept c w bs) q) ≡ false → holds (block s e) q ≡ false
   unfolding kept
   given-back (adds n) s e g h q k = absurd (false≢true g)
@@ -193,10 +192,10 @@ module _ {t m : ℕ} (os : Orders t m) (l : Ledger) (proper : Proper t m (l .pai
 
     standing-next : (c : Call) → first (rules c w) ≡ 0 → Quiet c
         → Standing (given || givesBack (b .start) c (accepted (value c w a))) b (referentOf (kept (changeOf c) w bs)) (stored c w a) (stored c w a′)
-    standing-next c z r = go given refl known (gives (changeOf c) (b .start)) refl
+    standing-next c z r = go given refl known (removesAt (changeOf c) (b .start)) refl
       where
         -- the number of an accepted give is 0, which leaves `&& true` of `givesBack`
-        go : (g : Bool) → given ≡ g → Standing g b (referentOf bs) a a′ → (u : Bool) → gives (changeOf c) (b .start) ≡ u
+        go : (g : Bool) → given ≡ g → Standing g b (referentOf bs) a a′ → (u : Bool) → removesAt (changeOf c) (b .start) ≡ u
             → Standing (g || u && true) b (referentOf (kept (changeOf c) w bs)) (stored c w a) (stored c w a′)
         go true e s u x =
             λ i k.

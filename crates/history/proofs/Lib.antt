@@ -6,7 +6,7 @@ pub mod Tables
 pub mod Gets
 pub mod Stores
 pub mod Simulation
-pub mod Runs
+pub mod CallLists
 pub mod Checking
 pub mod Room
 pub mod Demand3

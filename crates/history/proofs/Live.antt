@@ -16,8 +16,8 @@ use Rattle.heap.specs.declared.Call.{Call}
 use Rattle.heap.specs.declared.Call.the-variants.{Get, Give}
 use Rattle.heap.proofs.Changes.{Changing, gets, gives-back, keeps-all, changing}
 use Rattle.history.specs.Ledgers.{Ledger, ledgerView, without, kept, ledgerStep, emptyLedger}
-use Rattle.history.specs.Runs.{run}
-use Rattle.history.specs.Histories.{gives, givesBack, givenIn, gotThen, liveBy}
+use Rattle.history.specs.CallLists.{run}
+use Rattle.history.specs.Histories.{removesAt, givesBack, givenIn, gotThen, liveBy}
 
 -- the blocks whose start no accepted give among the calls names
 remains : List Call → List Answer → List Block → List Block
@@ -64,7 +64,7 @@ module _ (t m : ℕ) (cs : List Call) (xs : List Answer) where
 
   refused : (c : Call) (n : ℕ) (bs : List Block) → after-call c (record { number = suc n; value = 0 }) bs ≡ later-on bs
   refused c n bs =
-      stays c _ (λ s. rw (eqb-suc n, and-false (gives (changeOf c) s))) bs _ ∙ ap (λ (r : List Block). remains cs xs bs ++ r) (nothing (changeOf c))
+      stays c _ (λ s. rw (eqb-suc n, and-false (removesAt (changeOf c) s))) bs _ ∙ ap (λ (r : List Block). remains cs xs bs ++ r) (nothing (changeOf c))
     where
       nothing : (c : Change) → gotThen t m c (record { number = suc n; value = 0 }) (givenIn 0 cs xs) (liveBy t m cs xs) ≡ liveBy t m cs xs
       nothing (adds k) = rw (eqb-suc n)

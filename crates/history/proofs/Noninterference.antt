@@ -23,16 +23,15 @@ use Rattle.blocks.specs.declared.Referent.the-variants.{Found}
 use Rattle.common.proofs.Booleans.{and-left, and-right, or-false-left, or-false-right, or-true-right, eqb-suc}
 use Rattle.heap.specs.Views.{View, slotOrder}
 use Rattle.heap.specs.Rules.{rules}
-use Rattle.heap.specs.Effects.{value, stored, Outcome, settled, judged}
+use Rattle.heap.specs.Effects.{value, stored, Outcome, settled, judged, accepted}
 use Rattle.heap.specs.Heaps.{Heap, heapOf, heapView, viewOf, entered, heapStep, heapCall}
 use Rattle.heap.specs.Changes.{changeOf}
 use Rattle.heap.specs.declared.Answer.{Answer}
 use Rattle.heap.specs.declared.Call.{Call}
 use Rattle.heap.proofs.Judging.{accepted-ready}
 use Rattle.history.specs.Ledgers.{Ledger, ledgerView}
-use Rattle.history.specs.Runs.{run}
-use Rattle.history.specs.Histories.{gives, givesBack}
-use Rattle.history.specs.Demand3.{accepted}
+use Rattle.history.specs.CallLists.{run}
+use Rattle.history.specs.Histories.{removesAt, givesBack}
 use Rattle.history.specs.Noninterference.{reveals, sourceIn, noneBarred, EqualOutside, Twins, Undisclosed, Noninterference}
 use Rattle.history.proofs.Agreement.{Orders, Agree}
 use Rattle.history.proofs.Simulation.{view-same, accepted-agree}
@@ -131,7 +130,7 @@ module _ (b : Block) (h k : Heap) (c : Call) where
           → AlikeOutcomes slotOrder (given-by given w n) b (after w n h) (after w n k)
       go zero z q = accepted-alike given p (accepted-ready c (h .arena) (h .table) z .0 .sound) z q
       go (suc n) z q =
-          let still : given-by given w (suc n) ≡ given = rw (eqb-suc n, and-false (gives (changeOf c) (b .start))) (or-false given) in
+          let still : given-by given w (suc n) ≡ given = rw (eqb-suc n, and-false (removesAt (changeOf c) (b .start))) (or-false given) in
           record { answer = refl; states = subst (λ (u : Bool). Between slotOrder u b h k) (sym still) p }
 
 -- Where each call that is not barred reveals nothing while the block lives, a list without barred calls discloses nothing.

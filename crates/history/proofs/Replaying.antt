@@ -22,11 +22,11 @@ use Rattle.common.proofs.Refusals.{clear}
 use Rattle.heap.proofs.Judging.{Sized, ordered}
 use Rattle.heap.proofs.AnswerBytes.{answers-next, answers-none}
 use Rattle.history.specs.Ledgers.{Ledger, ledgerStep, emptyLedger}
-use Rattle.history.specs.Runs.{run}
+use Rattle.history.specs.CallLists.{run}
 use Rattle.history.specs.Replaying.{callLength, callAt, callsFrom, callCount, callsOf, unknownFrom, replayRules, Replayed, replayed, replayOf}
 use Rattle.history.proofs.Agreement.{Orders, Agree}
 use Rattle.history.proofs.Simulation.{agree-sound, step-same}
-use Rattle.history.proofs.Runs.{fresh-agree, slot-orders, fresh-made}
+use Rattle.history.proofs.CallLists.{fresh-agree, slot-orders, fresh-made}
 use Rattle.history.proofs.Encoding.{calls-here}
 
 -- ---- the refusals

@@ -29,7 +29,7 @@ use Rattle.heap.specs.declared.Answer.{Answer}
 use Rattle.heap.specs.declared.Call.{Call}
 use Rattle.heap.specs.declared.Call.the-variants.{Get, Give, Step, Read, Write, Left, Copy, Fill}
 use Rattle.history.specs.Ledgers.{Ledger, ledgerView, ledgerStep, emptyLedger}
-use Rattle.history.specs.Runs.{Run, run}
+use Rattle.history.specs.CallLists.{Run, run}
 use Rattle.history.specs.Histories.{liveBy, FreeRange, Starved, StarvedGet}
 use Rattle.common.proofs.Refusals.{not-given}
 use Rattle.heap.proofs.Settling.{settled-number}

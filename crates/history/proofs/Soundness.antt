@@ -23,7 +23,7 @@ use Rattle.heap.proofs.Judging.{sound-sized}
 use Rattle.history.specs.Ledgers.{Ledger, ledgerView, emptyLedger}
 use Rattle.history.proofs.Agreement.{Proper, none, more, Orders, Agree}
 use Rattle.history.proofs.Simulation.{view-same, agree-sound, step-same}
-use Rattle.history.proofs.Runs.{fresh-agree}
+use Rattle.history.proofs.CallLists.{fresh-agree}
 
 -- the blocks read after slot i start past it
 read-later : (t i : ℕ) (s : List ℕ) (b c : Block) → b .start ≡ base + i * 2 ^ t → List·Memᴰ c (blocksFrom t (suc i) s) → b ≡ c → ⊥

@@ -18,7 +18,7 @@ use Rattle.blocks.proofs.Slots.{block}
 use Rattle.blocks.proofs.Tables.{any-false}
 use Rattle.heap.specs.Views.{View, slotOrder, leftFrom}
 use Rattle.heap.specs.Rules.{rules, argumentRules, stateRules, dead}
-use Rattle.heap.specs.Effects.{copyCount, value, stored, settled}
+use Rattle.heap.specs.Effects.{copyCount, value, stored, settled, accepted}
 use Rattle.heap.specs.Heaps.{Heap, heapOf, heapView, viewOf, entered, heapStep, heapCall}
 use Rattle.heap.specs.Changes.{changeOf}
 use Rattle.heap.specs.declared.Call.{Call}
@@ -26,7 +26,6 @@ use Rattle.heap.specs.declared.Call.the-variants.{Get, Give, Step, Read, Write,
 use Rattle.common.proofs.Refusals.{clear}
 use Rattle.heap.proofs.Judging.{accepted-ready}
 use Rattle.history.specs.Ledgers.{Ledger, ledgerView}
-use Rattle.history.specs.Demand3.{accepted}
 use Rattle.history.specs.Noninterference.{reveals, sourceIn}
 use Rattle.history.proofs.Agreement.{Proper}
 use Rattle.history.proofs.Pairs.{holds-by, proper-set}

@@ -10,16 +10,14 @@ use Rattle.blocks.specs.Sets.{BlockSet, tableOf}
 use Rattle.blocks.specs.Pointers.{markBit, exactSum, within, inReach}
 use Rattle.blocks.specs.declared.Referent.the-variants.{Found}
 use Rattle.heap.specs.Views.{slotOrder}
+use Rattle.heap.specs.Effects.{accepted}
 use Rattle.heap.specs.Heaps.{Heap, heapCall, heapFresh, freshHeap, heapCheck, bit}
 use Rattle.heap.specs.Changes.{changeOf}
 use Rattle.heap.specs.declared.Answer.{Answer}
 use Rattle.heap.specs.declared.Call.{Call}
 use Rattle.heap.specs.declared.Call.the-variants.{Step}
-use Rattle.history.specs.Runs.{heapRun, ledgerRun}
+use Rattle.history.specs.CallLists.{heapRun, ledgerRun}
 use Rattle.history.specs.Histories.{liveBy, StarvedGet}
-
-abbrev pub accepted : ℕ → Answer
-accepted v = record { number = 0; value = v }
 
 -- the step from the address r to the address q, in two's complement
 abbrev pub distance : ℕ → ℕ → ℕ

@@ -11,15 +11,15 @@ use Rattle.heap.specs.Changes.{Change, adds, removes, keeps, changeOf}
 use Rattle.heap.specs.declared.Answer.{Answer}
 use Rattle.heap.specs.declared.Call.{Call}
 
--- the call is a give of s
-abbrev pub gives : Change → ℕ → Bool
-gives (adds n) s = false
-gives (removes p) s = eqb p s
-gives keeps s = false
+-- the change that a give of s makes
+abbrev pub removesAt : Change → ℕ → Bool
+removesAt (adds n) s = false
+removesAt (removes p) s = eqb p s
+removesAt keeps s = false
 
 -- the call gives back the block that starts at s
 abbrev pub givesBack : ℕ → Call → Answer → Bool
-givesBack s c x = gives (changeOf c) s && eqb (x .number) 0
+givesBack s c x = removesAt (changeOf c) s && eqb (x .number) 0
 
 -- an accepted give of s is among the calls
 unfoldable pub givenIn : ℕ → List Call → List Answer → Bool

@@ -1,5 +1,5 @@
 pub mod Ledgers
-pub mod Runs
+pub mod CallLists
 pub mod Histories
 pub mod Demand3
 pub mod Replaying

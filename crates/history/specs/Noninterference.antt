@@ -14,7 +14,7 @@ use Rattle.heap.specs.Heaps.{Heap, heapCall}
 use Rattle.heap.specs.declared.Answer.{Answer}
 use Rattle.heap.specs.declared.Call.{Call}
 use Rattle.heap.specs.declared.Call.the-variants.{Get, Give, Step, Read, Write, Left, Copy, Fill}
-use Rattle.history.specs.Runs.{run}
+use Rattle.history.specs.CallLists.{run}
 use Rattle.history.specs.Histories.{givesBack}
 
 -- ---- the calls that a list may not have while the block lives, by the block, the call and its answer

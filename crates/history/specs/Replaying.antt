@@ -14,7 +14,7 @@ use Rattle.heap.specs.Answers.{answerLength, answersBytes}
 use Rattle.heap.specs.Operations.{isOperation}
 use Rattle.heap.specs.declared.Call.{Call}
 use Rattle.heap.specs.declared.Call.the-variants.{Get, Give, Step, Read, Write, Left, Copy, Fill}
-use Rattle.history.specs.Runs.{ledgerRun}
+use Rattle.history.specs.CallLists.{ledgerRun}
 
 -- a call takes 14 bytes: its operation as in a take, a byte x, and three big-endian numbers
 abbrev pub callLength : ℕ

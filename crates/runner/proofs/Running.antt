@@ -17,7 +17,7 @@ use Rattle.heap.specs.Inner.{Sound}
 use Rattle.heap.specs.Answers.{answerLength}
 use Rattle.heap.specs.declared.Answer.{Answer}
 use Rattle.heap.proofs.Judging.{Sized, fits-sized, fresh-heap}
-use Rattle.history.proofs.Runs.{slot-orders}
+use Rattle.history.proofs.CallLists.{slot-orders}
 use Rattle.history.proofs.Soundness.{SoundHeap, fresh-sound, call-sound}
 use Rattle.heap.specs.Registers.{registerCount, registersAtFirst}
 use Rattle.runner.specs.Decoding.{callOf}

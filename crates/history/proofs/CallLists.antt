@@ -8,14 +8,13 @@ use Rattle.blocks.specs.Sets.{referentOf, entriesFrom, tableOf}
 use Rattle.blocks.specs.Orders.{orderOf}
 use Rattle.blocks.proofs.Orders.{order-power}
 use Rattle.heap.specs.Views.{slotOrder}
-use Rattle.heap.specs.Effects.{Outcome}
+use Rattle.heap.specs.Effects.{Outcome, accepted}
 use Rattle.heap.specs.Heaps.{Heap, heapStep, heapCall, heapFresh, freshIn, freshHeap}
 use Rattle.heap.specs.declared.Answer.{Answer}
 use Rattle.heap.specs.declared.Call.{Call}
 use Rattle.heap.proofs.Judging.{sizes-right, fresh-heap}
 use Rattle.history.specs.Ledgers.{Ledger, ledgerStep, emptyLedger}
-use Rattle.history.specs.Runs.{Run, run}
-use Rattle.history.specs.Demand3.{accepted}
+use Rattle.history.specs.CallLists.{Run, run}
 use Rattle.history.proofs.Agreement.{none, Orders, Agree, Same}
 use Rattle.history.proofs.Simulation.{step-same}
 
