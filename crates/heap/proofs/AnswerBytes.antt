@@ -1,4 +1,4 @@
--- Answers as bytes, stored one after the other.
+-- Answers as bytes, stored one after the other: two stores, the second where the first ends, are one store of both (`over-append`).
 use Prim.Native.Nat.{ℕ, suc, _+_, _≤_}
 use mathlib.Core.Path.{_≡_, sym, _∙_, ap}
 use mathlib.Core.List.{List, [], _∷_}

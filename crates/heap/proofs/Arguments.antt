@@ -1,4 +1,4 @@
--- The refusals by a call's arguments, as the code finds them.
+-- The refusals by a call's arguments, as the code finds them: with what a test says put in its place, the list's first refusal computes.
 use Prim.Native.Nat.{ℕ, _^_, _≤_}
 use mathlib.Core.Path.{_≡_}
 use mathlib.Core.Bool.{true, false, _||_}

@@ -1,4 +1,4 @@
--- A call by what it does to the set of blocks: a get, a give, or one that keeps the set.
+-- A call by what it does to the set of blocks, told by cases of the call: a get, a give, or one that keeps the set.
 use Prim.Native.Nat.{ℕ}
 use mathlib.Core.Path.{_≡_, refl}
 use Rattle.heap.specs.Changes.{keeps, changeOf}

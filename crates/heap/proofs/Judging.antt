@@ -1,4 +1,5 @@
--- A call that has been judged up to its state, by its list of refusals.
+-- A call that has been judged up to its state, by its list of refusals. The list's first is that of 8, the arguments' own first, 20 and the state's
+-- (`rules-first`), which is the order in which the code finds them (`judge`).
 use Prim.Native.Nat.{ℕ, zero, suc, _-_, _^_, _≤_}
 use mathlib.Core.Path.{_≡_, refl, sym, _∙_, ap, ap₂, subst}
 use mathlib.Core.Bool.{Bool, true, false, not, cond}

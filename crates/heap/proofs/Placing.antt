@@ -1,4 +1,5 @@
--- The outcomes of get and give: a block put where the placing rule says, and a block taken away.
+-- The outcomes of get and give: a block put where the placing rule says, a free range of at least its order (`place-sound`), and a block taken away, whose
+-- slots are those from its start on (`slots-of`).
 use Prim.Native.Nat.{ℕ, _+_, _-_, _*_, _/_, _%_, _^_, _≤_}
 use mathlib.Core.Path.{_≡_, refl, sym, _∙_, ap, subst}
 use mathlib.Core.Bool.{Bool, true, false, not, cond, _||_}

@@ -1,4 +1,4 @@
--- What a call settles: its answer and the state, by the number that refuses it or by 0.
+-- What a call settles: its answer and the state, by cases of the number that refuses it, 0 for none.
 use Prim.Native.Nat.{ℕ, zero, suc}
 use mathlib.Core.Path.{_≡_, refl}
 use native.Mathlib.Omega.{arith}

@@ -1,4 +1,4 @@
--- Showing a sample, by what left answers for the same p.
+-- Showing a sample, by what left answers for the same p: show has left's rules (`address-left`), so its number is left's, and its length left's value.
 use Prim.Native.Nat.{ℕ, _+_, _-_, _^_, _≤_}
 use mathlib.Core.Path.{_≡_, refl, sym, _∙_, ap}
 use mathlib.Core.Bool.{Bool, true, false, cond, false≢true}

@@ -1,4 +1,5 @@
--- A step: the code's sum, which wraps, and its comparisons with the referent's bounds, against the exact sum.
+-- A step: the code's sum, which wraps, and its comparisons with the referent's bounds, against the exact sum. The two are equal, or the exact one is negative
+-- and the other past every block and its reach (`sum-cases`).
 use Prim.Native.Nat.{ℕ, suc, _+_, _-_, _%_, _^_, _≤_, _<_}
 use mathlib.Core.Path.{_≡_, refl, sym, _∙_, ap, ap₂}
 use mathlib.Core.Bool.{Bool, true, false, not, cond, _&&_, _||_, and-false}

@@ -1,6 +1,6 @@
 -- What the parts of a call's code say to each other. Only the contracts of inner functions cite these: no public contract rests on them, and document 01 has
 -- none of them.
-use Prim.Native.Nat.{ℕ, zero, suc, _+_, _-_, _^_, _≤_, _<_}
+use Prim.Native.Nat.{ℕ, zero, suc, _-_, _^_, _≤_, _<_}
 use mathlib.Core.Path.{_≡_}
 use mathlib.Core.Bool.{true, false, not, cond}
 use mathlib.Core.List.{List, [], _∷_}

@@ -1,4 +1,5 @@
--- The simulation over a list of calls: a heap and a ledger that agree give the same answers, and agree at the end.
+-- The simulation over a list of calls: a heap and a ledger that agree give the same answers, and agree at the end. By induction over the calls, from
+-- `step-same`.
 use Prim.Native.Nat.{ℕ, zero, suc, _+_, _-_, _^_, _≤_}
 use mathlib.Core.Path.{_≡_, refl, sym, _∙_, ap, ap₂}
 use mathlib.Core.List.{List, [], _∷_}

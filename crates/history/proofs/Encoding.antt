@@ -1,4 +1,4 @@
--- Calls as bytes: one call read, and the calls from one place on.
+-- Calls as bytes: one call read, and the calls from one place on, of which each law opens the first (`one-more`, `next-place`).
 use Prim.Native.Nat.{ℕ, suc, _+_, _-_, _*_, _≤_, _<_}
 use mathlib.Core.Path.{_≡_}
 use mathlib.Core.Bool.{true, false, not, _||_}

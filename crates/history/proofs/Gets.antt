@@ -1,4 +1,4 @@
--- The block that an accepted get adds: it is aligned and was free.
+-- The block that an accepted get adds: it is aligned and was free, since the placing rule finds only ranges that are (`place-sound`).
 use Prim.Native.Nat.{ℕ, _+_, _-_, _*_, _^_, _≤_}
 use mathlib.Core.Path.{_≡_, refl, sym, _∙_, ap}
 use mathlib.Core.Bool.{true, false, false≢true}

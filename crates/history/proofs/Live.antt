@@ -1,4 +1,5 @@
--- The blocks live by the history of a ledger's calls are the pairs that it has after them.
+-- The blocks live by the history of a ledger's calls are the pairs that it has after them. By induction over the calls, from any ledger: of its pairs those
+-- remain that no later give names (`run-lives`).
 use Prim.Native.Nat.{ℕ, zero, suc}
 use mathlib.Core.Path.{_≡_, refl, _∙_, ap}
 use mathlib.Core.Bool.{Bool, true, false, cond, _&&_, _||_, and-false}

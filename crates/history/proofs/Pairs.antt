@@ -1,4 +1,5 @@
--- The pairs of a ledger: aligned blocks that stand apart, and the referent that they give an address. t is the smallest order.
+-- The pairs of a ledger: aligned blocks that stand apart, and the referent that they give an address, with a pair taken away or added. By induction over the
+-- list. t is the smallest order.
 use Prim.Native.Nat.{ℕ, _+_, _-_, _*_, _^_, _≤_, _<_}
 use mathlib.Core.Path.{_≡_, refl, sym, _∙_, ap, subst}
 use mathlib.Core.Bool.{Bool, true, false, cond, false≢true}

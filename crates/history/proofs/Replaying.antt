@@ -1,4 +1,5 @@
--- A list of calls replayed: how it is judged, and where it stands between two calls.
+-- A list of calls replayed: how it is judged, and where it stands between two calls (`Replays`). One call is the simulation's (`step-same`), and the list is
+-- the call and those after it (`played-next`).
 use Prim.Native.Nat.{ℕ, zero, suc, _+_, _-_, _*_, _%_, _≤_, _<_}
 use mathlib.Core.Path.{_≡_, refl, sym, _∙_, ap, subst}
 use mathlib.Core.Bool.{Bool, true, false, not, cond, false≢true}

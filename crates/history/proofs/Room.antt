@@ -1,4 +1,5 @@
--- 21 is the answer of exactly the gets for which no free range is large enough.
+-- 21 is the answer of exactly the gets for which no free range is large enough: the placing rule misses none that is (`unplaced`), and what it finds is
+-- free (`got-free`).
 use Prim.Native.Nat.{ℕ, suc, _+_, _-_, _*_, _^_, _≤_, _<_}
 use mathlib.Core.Path.{_≡_, refl, sym, _∙_, ap, subst}
 use mathlib.Core.Bool.{Bool, true, false, cond, _||_, false≢true}

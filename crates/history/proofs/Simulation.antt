@@ -1,4 +1,4 @@
--- One call: a heap and a ledger that agree look alike to every rule, answer alike, and agree again.
+-- One call: a heap and a ledger that agree look alike to every rule (`view-same`), so they answer alike, and agree again (`step-same`).
 use Prim.Native.Nat.{ℕ, zero, suc, _+_, _-_, _*_, _%_, _^_, _≤_, _<_}
 use mathlib.Core.Path.{_≡_, refl, sym, _∙_, ap, subst, fun-ext}
 use mathlib.Core.Bool.{Bool, true, false, cond, false≢true}

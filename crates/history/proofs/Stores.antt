@@ -1,4 +1,4 @@
--- What an accepted call stores: bytes at one place, which lie in the arena.
+-- What an accepted call stores, by cases of the call: bytes at one place, which lie in the arena, since those left from a pointer on do (`left-fits`).
 use Prim.Native.Nat.{ℕ, _+_, _-_, _^_, _≤_, _<_}
 use mathlib.Core.Path.{_≡_, refl, sym, _∙_, ap}
 use mathlib.Core.Bool.{true, false, false≢true}

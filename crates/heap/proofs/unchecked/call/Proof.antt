@@ -53,49 +53,49 @@ enum-known-c : tie.Need-enum-known-c
 enum-known-c c = search needs
 
 get-requires : tie.Need-get-requires
-get-requires c κs = let k = c .before .before .before in ready (k .before .before) _ (k .c .given .1)
+get-requires c κs = let arm : tie.After-c = c .before .before .before in ready (arm .before .before) _ (arm .c .given .1)
 
 enum-known-c-2 : tie.Need-enum-known-c-2
 enum-known-c-2 c = search needs
 
 give-requires : tie.Need-give-requires
-give-requires c κs = let k = c .before .before .before in ready (k .before .before) _ (k .c2 .given .1)
+give-requires c κs = let arm : tie.After-c2 = c .before .before .before in ready (arm .before .before) _ (arm .c2 .given .1)
 
 enum-known-c-3 : tie.Need-enum-known-c-3
 enum-known-c-3 c = search needs
 
 step-requires : tie.Need-step-requires
-step-requires c κs = let k = c .before .before .before in ready (k .before .before) _ (k .c3 .given .1)
+step-requires c κs = let arm : tie.After-c3 = c .before .before .before in ready (arm .before .before) _ (arm .c3 .given .1)
 
 enum-known-c-4 : tie.Need-enum-known-c-4
 enum-known-c-4 c = search needs
 
 read-requires : tie.Need-read-requires
-read-requires c κs = let k = c .before .before .before in ready (k .before .before) _ (k .c4 .given .1)
+read-requires c κs = let arm : tie.After-c4 = c .before .before .before in ready (arm .before .before) _ (arm .c4 .given .1)
 
 enum-known-c-5 : tie.Need-enum-known-c-5
 enum-known-c-5 c = search needs
 
 write-requires : tie.Need-write-requires
-write-requires c κs = let k = c .before .before .before in ready (k .before .before) _ (k .c5 .given .1)
+write-requires c κs = let arm : tie.After-c5 = c .before .before .before in ready (arm .before .before) _ (arm .c5 .given .1)
 
 enum-known-c-6 : tie.Need-enum-known-c-6
 enum-known-c-6 c = search needs
 
 left-requires : tie.Need-left-requires
-left-requires c κs = let k = c .before .before .before in ready (k .before .before) _ (k .c6 .given .1)
+left-requires c κs = let arm : tie.After-c6 = c .before .before .before in ready (arm .before .before) _ (arm .c6 .given .1)
 
 enum-known-c-7 : tie.Need-enum-known-c-7
 enum-known-c-7 c = search needs
 
 copy-requires : tie.Need-copy-requires
-copy-requires c κs = let k = c .before .before .before in ready (k .before .before) _ (k .c7 .given .1)
+copy-requires c κs = let arm : tie.After-c7 = c .before .before .before in ready (arm .before .before) _ (arm .c7 .given .1)
 
 enum-known-c-8 : tie.Need-enum-known-c-8
 enum-known-c-8 c = search needs
 
 fill-requires : tie.Need-fill-requires
-fill-requires c κs = let k = c .before .before .before in ready (k .before .before) _ (k .c8 .given .1)
+fill-requires c κs = let arm : tie.After-c8 = c .before .before .before in ready (arm .before .before) _ (arm .c8 .given .1)
 
 same-length : tie.Need-same-length
 same-length c = search needs
@@ -105,9 +105,9 @@ same-length-2 c = search needs
 
 returns-2 : tie.Need-returns-2
 returns-2 c =
-    let n = c .before .before .before .before in
-    let k = n .before .before .before .before in
-    same (k .before .before) _ (k .c .given .1) _ (n .get .ensures)
+    let done : tie.After-get = c .before .before .before .before in
+    let arm : tie.After-c = done .before .before .before .before in
+    same (arm .before .before) _ (arm .c .given .1) _ (done .get .ensures)
 
 same-length-3 : tie.Need-same-length-3
 same-length-3 c = search needs
@@ -117,9 +117,9 @@ same-length-4 c = search needs
 
 returns-3 : tie.Need-returns-3
 returns-3 c =
-    let n = c .before .before in
-    let k = n .before .before .before .before in
-    same (k .before .before) _ (k .c2 .given .1) _ (n .give .ensures)
+    let done : tie.After-give = c .before .before in
+    let arm : tie.After-c2 = done .before .before .before .before in
+    same (arm .before .before) _ (arm .c2 .given .1) _ (done .give .ensures)
 
 same-length-5 : tie.Need-same-length-5
 same-length-5 c = search needs
@@ -129,9 +129,8 @@ same-length-6 c = search needs
 
 returns-4 : tie.Need-returns-4
 returns-4 c =
-    let n = c in
-    let k = n .before .before .before .before in
-    same (k .before .before) _ (k .c3 .given .1) _ (n .step .ensures)
+    let arm : tie.After-c3 = c .before .before .before .before in
+    same (arm .before .before) _ (arm .c3 .given .1) _ (c .step .ensures)
 
 same-length-7 : tie.Need-same-length-7
 same-length-7 c = search needs
@@ -141,9 +140,8 @@ same-length-8 c = search needs
 
 returns-5 : tie.Need-returns-5
 returns-5 c =
-    let n = c in
-    let k = n .before .before .before .before in
-    same (k .before .before) _ (k .c4 .given .1) _ (n .read .ensures)
+    let arm : tie.After-c4 = c .before .before .before .before in
+    same (arm .before .before) _ (arm .c4 .given .1) _ (c .read .ensures)
 
 same-length-9 : tie.Need-same-length-9
 same-length-9 c = search needs
@@ -153,9 +151,9 @@ same-length-10 c = search needs
 
 returns-6 : tie.Need-returns-6
 returns-6 c =
-    let n = c .before .before in
-    let k = n .before .before .before .before in
-    same (k .before .before) _ (k .c5 .given .1) _ (n .write .ensures)
+    let done : tie.After-write = c .before .before in
+    let arm : tie.After-c5 = done .before .before .before .before in
+    same (arm .before .before) _ (arm .c5 .given .1) _ (done .write .ensures)
 
 same-length-11 : tie.Need-same-length-11
 same-length-11 c = search needs
@@ -165,9 +163,8 @@ same-length-12 c = search needs
 
 returns-7 : tie.Need-returns-7
 returns-7 c =
-    let n = c in
-    let k = n .before .before .before .before in
-    same (k .before .before) _ (k .c6 .given .1) _ (n .left .ensures)
+    let arm : tie.After-c6 = c .before .before .before .before in
+    same (arm .before .before) _ (arm .c6 .given .1) _ (c .left .ensures)
 
 same-length-13 : tie.Need-same-length-13
 same-length-13 c = search needs
@@ -177,9 +174,9 @@ same-length-14 c = search needs
 
 returns-8 : tie.Need-returns-8
 returns-8 c =
-    let n = c .before .before in
-    let k = n .before .before .before .before in
-    same (k .before .before) _ (k .c7 .given .1) _ (n .copy .ensures)
+    let done : tie.After-copy = c .before .before in
+    let arm : tie.After-c7 = done .before .before .before .before in
+    same (arm .before .before) _ (arm .c7 .given .1) _ (done .copy .ensures)
 
 same-length-15 : tie.Need-same-length-15
 same-length-15 c = search needs
@@ -189,9 +186,9 @@ same-length-16 c = search needs
 
 returns-9 : tie.Need-returns-9
 returns-9 c =
-    let n = c .before .before in
-    let k = n .before .before .before .before in
-    same (k .before .before) _ (k .c8 .given .1) _ (n .fill .ensures)
+    let done : tie.After-fill = c .before .before in
+    let arm : tie.After-c8 = done .before .before .before .before in
+    same (arm .before .before) _ (arm .c8 .given .1) _ (done .fill .ensures)
 
 pub call-spec : {M : Type 1} → statement M
 call-spec =
