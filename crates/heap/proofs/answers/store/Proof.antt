@@ -21,17 +21,23 @@ add-write-number c = let s = c .before .before .before in record { fits = omega 
 write-number-requires : tie.Need-write-number-requires
 write-number-requires c κs = let s = c .before .before .before in (omega arith, simp length-set (omega (arith, s .pre)))
 
+-- once the value's bytes are stored
+module _ (c : tie.After-write-number) where
+  abbrev entry : tie.Start
+  entry = c .before .before .before .before
+
 same-length : tie.Need-same-length
 same-length c =
-    let a = c .before .before .before .before .before .before .args in
-    c .before .before .write-number .kept .0 ∙ length-set (a .out .now) (a .at) (a .answer .number % 256)
+    let stored : tie.After-write-number = c .before .before in
+    let a = entry stored .args in
+    stored .write-number .kept .0 ∙ length-set (a .out .now) (a .at) (a .answer .number % 256)
 
 returns : tie.Need-returns
 returns c =
-    let s = c .before .before .before .before .before .before in
-    let a = s .args in
-    c .before .before .write-number .ensures
-    ∙ sym (rw add-one (over-first (a .out .now) (a .at) (a .answer .number % 256) (bytesOf 4 (a .answer .value)) (omega (arith, s .pre))))
+    let stored : tie.After-write-number = c .before .before in
+    let a = entry stored .args in
+    stored .write-number .ensures
+    ∙ sym (rw add-one (over-first (a .out .now) (a .at) (a .answer .number % 256) (bytesOf 4 (a .answer .value)) (omega (arith, entry stored .pre))))
 
 pub store-spec : {M : Type 1} → statement M
 store-spec = tie.close (tie.spec cast-out slice-write-out add-write-number write-number-requires same-length returns)

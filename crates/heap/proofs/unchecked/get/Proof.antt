@@ -107,7 +107,7 @@ enum-known-slot : tie.Need-enum-known-slot
 enum-known-slot c = search needs
 
 slots-of-requires : tie.Need-slots-of-requires
-slots-of-requires c κs = let k = c .before .before .before .before .before .before in (order-needed k .low, order-top k)
+slots-of-requires c κs = let k = from (c .before .before) in (order-needed k .low, order-top k)
 
 cast-fill : tie.Need-cast-fill
 cast-fill c = record { fits = omega arith }
