@@ -33,10 +33,10 @@ use Rattle.history.proofs.Encoding.{calls-here}
 -- ---- the refusals
 
 -- the number, by what the four tests say
-pub number-is : (calls a tab out : List ℕ) {p q r s : Bool} → not (eqb (length calls % callLength) 0) ≡ p → unknownFrom calls 0 (callCount calls) ≡ q
+pub replay-number : (calls a tab out : List ℕ) {p q r s : Bool} → not (eqb (length calls % callLength) 0) ≡ p → unknownFrom calls 0 (callCount calls) ≡ q
     → viewOf (heapOf a tab) .wrong-sizes ≡ r → ltb (length out) (answerLength * callCount calls) ≡ s
     → cond p 4 (cond q 5 (cond r 8 (cond {A = ℕ} s 9 0))) ≡ first (replayRules calls (heapOf a tab) out)
-number-is calls a tab out u v w x = sym (λ i. cond (u i) 4 (cond (v i) 5 (cond (w i) 8 (cond {A = ℕ} (x i) 9 0))))
+replay-number calls a tab out u v w x = sym (λ i. cond (u i) 4 (cond (v i) 5 (cond (w i) 8 (cond {A = ℕ} (x i) 9 0))))
 
 -- nothing refuses the replay
 pub record Playable (m : ℕ) (calls a tab out : List ℕ) : Type 0 where

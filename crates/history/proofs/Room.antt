@@ -76,9 +76,9 @@ got-free os l proper n e =
 -- ---- the number 21
 
 -- the number that a call answers is the first of its refusals
-number-is : (t m : ℕ) (c : Call) (l : Ledger) → ledgerStep t m c l .answer .number ≡ first (rules c (ledgerView t m l))
+step-number : (t m : ℕ) (c : Call) (l : Ledger) → ledgerStep t m c l .answer .number ≡ first (rules c (ledgerView t m l))
 unfolding ledgerStep
-number-is t m c l = settled-number (first (rules c (ledgerView t m l))) _ l _
+step-number t m c l = settled-number (first (rules c (ledgerView t m l))) _ l _
 
 -- the number n is 21 for exactly a starved get
 abbrev Tells : (t m : ℕ) → List Block → Call → ℕ → Type 0
@@ -126,7 +126,7 @@ module _ {t m : ℕ} (os : Orders t m) (l : Ledger) (proper : Proper t m (l .pai
 
   -- 21 is the answer of exactly the starved gets
   starved-number : (c : Call) → Tells t m (l .pairs) c (ledgerStep t m c l .answer .number)
-  starved-number c = subst (Tells t m (l .pairs) c) (sym (number-is t m c l)) (starved-by-rules c)
+  starved-number c = subst (Tells t m (l .pairs) c) (sym (step-number t m c l)) (starved-by-rules c)
 
 -- ---- over a list of calls
 
