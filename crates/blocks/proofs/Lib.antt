@@ -16,3 +16,4 @@ pub mod Sets
 pub mod SetTables
 pub mod Reading
 pub mod OneTable
+pub mod Examples

@@ -6,4 +6,3 @@ pub mod Orders
 pub mod Placing
 pub mod Searching
 pub mod Seeking
-pub mod Examples

@@ -3,3 +3,6 @@ pub mod Records
 pub mod Running
 pub mod Judging
 pub mod Panel
+pub mod Computing
+pub mod Examples
+pub mod Vectors

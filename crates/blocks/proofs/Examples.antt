@@ -1,5 +1,6 @@
--- The definitions on small tables: an arena of 64 bytes, 4 slots of 16.
-use mathlib.Core.Bool.{true, false}
+-- The definitions computed on small tables: an arena of 64 bytes, 4 slots of 16. To unfold `damage` or `placed` is to unfold all that it computes with.
+use Prim.Native.Nat.{ℕ}
+use mathlib.Core.Bool.{Bool, true, false}
 use mathlib.Core.List.{List, [], _∷_}
 use mathlib.Core.Path.{_≡_, refl}
 use lib.IntN.{pos, negsuc}
@@ -9,29 +10,34 @@ use Rattle.blocks.specs.Sets.{referentOf, entriesFrom, tableOf, blocksFr
 use Rattle.blocks.specs.Pointers.{sought, signed, exactSum}
 use Rattle.blocks.specs.Orders.{orderOf, neededOrder}
 use Rattle.blocks.specs.Placing.{allFree, rangeStart, freeRange, maximal, lowest, atOrder, fromOrder, placeIn}
+use Rattle.blocks.specs.declared.Place.{Place}
 use Rattle.blocks.specs.declared.Place.the-variants.{At, Nothing}
 use Rattle.blocks.specs.declared.Referent.the-variants.{Missing, Found}
 
--- a block of two slots, a free slot and a block of one
-whole : damagedBy 4 6 (5 ∷ 5 ∷ 0 ∷ 4 ∷ []) ≡ false
+damage : List ℕ → Bool
 unfolding any torn bad damagedBy floor
+damage s = damagedBy 4 6 s
+
+-- a block of two slots, a free slot and a block of one
+whole : damage (5 ∷ 5 ∷ 0 ∷ 4 ∷ []) ≡ false
+unfolding damage
 whole = refl
 
 -- two slots that are no aligned range
-askew : damagedBy 4 6 (0 ∷ 5 ∷ 5 ∷ 0 ∷ []) ≡ true
-unfolding any torn bad damagedBy floor
+askew : damage (0 ∷ 5 ∷ 5 ∷ 0 ∷ []) ≡ true
+unfolding damage
 askew = refl
 
-overwritten : damagedBy 4 6 (6 ∷ 6 ∷ 6 ∷ 0 ∷ []) ≡ true
-unfolding any torn bad damagedBy floor
+overwritten : damage (6 ∷ 6 ∷ 6 ∷ 0 ∷ []) ≡ true
+unfolding damage
 overwritten = refl
 
-too-low : damagedBy 4 6 (0 ∷ 0 ∷ 3 ∷ 0 ∷ []) ≡ true
-unfolding any torn bad damagedBy floor
+too-low : damage (0 ∷ 0 ∷ 3 ∷ 0 ∷ []) ≡ true
+unfolding damage
 too-low = refl
 
-too-high : damagedBy 4 6 (7 ∷ 7 ∷ 7 ∷ 7 ∷ []) ≡ true
-unfolding any torn bad damagedBy floor
+too-high : damage (7 ∷ 7 ∷ 7 ∷ 7 ∷ []) ≡ true
+unfolding damage
 too-high = refl
 
 two : List Block
@@ -70,21 +76,25 @@ back-one : exactSum 65568 4294967295 ≡ pos 65567
 unfolding signed
 back-one = refl
 
-smallest : placeIn (freeIn (0 ∷ 0 ∷ 4 ∷ 0 ∷ [])) 4 0 6 4 ≡ At 3 4
+placed : List ℕ → ℕ → Place
 unfolding placeIn fromOrder atOrder lowest maximal freeRange rangeStart allFree
+placed s e = placeIn (freeIn s) 4 0 6 e
+
+smallest : placed (0 ∷ 0 ∷ 4 ∷ 0 ∷ []) 4 ≡ At 3 4
+unfolding placed
 smallest = refl
 
-next : placeIn (freeIn (0 ∷ 0 ∷ 4 ∷ 0 ∷ [])) 4 0 6 5 ≡ At 0 5
-unfolding placeIn fromOrder atOrder lowest maximal freeRange rangeStart allFree
+next : placed (0 ∷ 0 ∷ 4 ∷ 0 ∷ []) 5 ≡ At 0 5
+unfolding placed
 next = refl
 
-no-place : placeIn (freeIn (0 ∷ 0 ∷ 4 ∷ 0 ∷ [])) 4 0 6 6 ≡ Nothing
-unfolding placeIn fromOrder atOrder lowest maximal freeRange rangeStart allFree
+no-place : placed (0 ∷ 0 ∷ 4 ∷ 0 ∷ []) 6 ≡ Nothing
+unfolding placed
 no-place = refl
 
 -- free neighbours that are not halves of one range are not joined
-no-halves : placeIn (freeIn (4 ∷ 0 ∷ 0 ∷ 4 ∷ [])) 4 0 6 5 ≡ Nothing
-unfolding placeIn fromOrder atOrder lowest maximal freeRange rangeStart allFree
+no-halves : placed (4 ∷ 0 ∷ 0 ∷ 4 ∷ []) 5 ≡ Nothing
+unfolding placed
 no-halves = refl
 
 orders : (orderOf 32 ≡ 5) × (orderOf 65536 ≡ 16) × (orderOf 48 ≡ 0) × (neededOrder 4 6 1 ≡ 4) × (neededOrder 4 6 17 ≡ 5) × (neededOrder 4 6 64 ≡ 6)

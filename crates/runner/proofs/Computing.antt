@@ -1,0 +1,27 @@
+-- A take carried out by the definitions on a fresh heap. To unfold `carried` is to unfold all that a run computes with, so that vectors and examples name
+-- it and their own data.
+use Prim.Native.Nat.{ℕ}
+use mathlib.Core.List.{List}
+use Rattle.common.specs.Bytes.{bigEndian, bytesOf, over, copied}
+use Rattle.blocks.specs.Blocks.{floor}
+use Rattle.blocks.specs.Tables.{any, torn, bad, damagedBy, referentIn}
+use Rattle.blocks.specs.Pointers.{sought, signed, checkBits, within, inReach}
+use Rattle.blocks.specs.Orders.{orderOf, neededOrder}
+use Rattle.blocks.specs.Placing.{allFree, rangeStart, freeRange, maximal, lowest, atOrder, fromOrder, placeIn}
+use Rattle.heap.specs.Rules.{argumentRules, stateRules, rules}
+use Rattle.heap.specs.Effects.{value, stored}
+use Rattle.heap.specs.Heaps.{insideByCheck, entered, heapStep, heapCall, freshHeap}
+use Rattle.heap.specs.Answers.{answersBytes}
+use Rattle.heap.specs.Registers.{registersAtFirst}
+use Rattle.takes.specs.Operations.{known, kindsOf}
+use Rattle.takes.specs.Records.{recordOf}
+use Rattle.takes.specs.Reading.{readRules, readBytes}
+use Rattle.takes.specs.Files.{walk, headNumber, fileNumber, recordsOf, sizeByte}
+use Rattle.runner.specs.Decoding.{registersAfter}
+use Rattle.runner.specs.Runs.{Carried, carryOut, runBy}
+
+unfoldable pub carried : List ℕ → Carried
+unfolding bigEndian bytesOf over copied floor any torn bad damagedBy referentIn sought signed checkBits within inReach orderOf neededOrder allFree
+    rangeStart freeRange maximal lowest atOrder fromOrder placeIn argumentRules stateRules rules value stored insideByCheck entered heapStep heapCall
+    known kindsOf recordOf readRules readBytes walk headNumber fileNumber recordsOf registersAfter carryOut answersBytes runBy
+carried file = carryOut (recordsOf file) (freshHeap (sizeByte file)) registersAtFirst
