@@ -42,7 +42,8 @@ pub smaller-left : (s k s′ k′ : ℕ) → k ≤ k′ → smallerOf (At s k) (
 smaller-left s k s′ k′ h = rw (le-ltb k′ k h)
 
 -- the smaller of two answers, where each is of order k or else of a larger one
-smaller-else : (k : ℕ) (a b x y : Place) → OrderIs k a → OrderIs k b → OrderFrom (suc k) x → OrderFrom (suc k) y → orElse (orElse a b) (smallerOf x y) ≡ smallerOf (orElse a x) (orElse b y)
+smaller-else : (k : ℕ) (a b x y : Place) → OrderIs k a → OrderIs k b → OrderFrom (suc k) x → OrderFrom (suc k) y
+    → orElse (orElse a b) (smallerOf x y) ≡ smallerOf (orElse a x) (orElse b y)
 smaller-else k Nothing Nothing x y p q g h = refl
 smaller-else k Nothing (At s j) Nothing y p q g h = refl
 smaller-else k Nothing (At s j) (At u i) y p q g h = sym (smaller-right u i s j (omega arith))
@@ -72,7 +73,9 @@ module _ (p : ℕ → Bool) (s : ℕ → ℕ) (k : ℕ) where
   lowest-order b zero = tt
   lowest-order b (suc n) = cond-order (p b) (s b) _ (lowest-order (suc b) n)
 
-pub lowest-same : (p q : ℕ → Bool) (r s : ℕ → ℕ) (k b c n : ℕ) → ((i : ℕ) → i < n → p (b + i) ≡ q (c + i)) → ((i : ℕ) → i < n → r (b + i) ≡ s (c + i)) → lowest p r k b n ≡ lowest q s k c n
+-- by tests and starts that are the same from number b on as others are from number c on
+pub lowest-same : (p q : ℕ → Bool) (r s : ℕ → ℕ) (k b c n : ℕ)
+    → ((i : ℕ) → i < n → p (b + i) ≡ q (c + i)) → ((i : ℕ) → i < n → r (b + i) ≡ s (c + i)) → lowest p r k b n ≡ lowest q s k c n
 unfolding lowest
 lowest-same p q r s k b c zero h g = refl
 lowest-same p q r s k b c (suc n) h g =
@@ -174,21 +177,35 @@ module _ (f : ℕ → Bool) (t from m : ℕ) where
   two : (k : ℕ) → k ≤ m → 2 ^ (suc m - k) ≡ 2 ^ (m - k) + 2 ^ (m - k)
   two k q = doubled (m - k) (suc m - k) (omega arith)
 
-  level : (k : ℕ) → t ≤ k → k ≤ m → allFree f from (2 ^ (suc m - t)) ≡ false → atOrder f t from (suc m) k ≡ orElse (atOrder f t from m k) (atOrder f t (from + 2 ^ (m - t)) m k)
+  -- where the right half begins
+  abbrev middle : ℕ
+  middle = from + 2 ^ (m - t)
+
+  -- one order, in an arena of order m + 1 that is not free: its ranges are those of the left half and then those of the right
+  level : (k : ℕ) → t ≤ k → k ≤ m → allFree f from (2 ^ (suc m - t)) ≡ false
+      → atOrder f t from (suc m) k ≡ orElse (atOrder f t from m k) (atOrder f t middle m k)
   unfolding atOrder
   level k p q h =
       rw (two k q)
       (lowest-append _ (rangeStart t from k) k 0 (2 ^ (m - k)) (2 ^ (m - k))
       ∙ ap₂ orElse
-      (lowest-same _ _ (rangeStart t from k) _ k 0 0 (2 ^ (m - k)) (λ i l. ap (λ (x : Bool). freeRange f t from k (0 + i) && x) (maximal-same k (0 + i) q (omega (arith, two k q)) h)) (λ i l. refl))
-      (lowest-same _ _ (rangeStart t from k) _ k (0 + 2 ^ (m - k)) 0 (2 ^ (m - k)) (λ i l. rw (zero-add, zero-add) (ap₂ _&&_ (free-right k i p q) (maximal-same k (2 ^ (m - k) + i) q (omega (arith, two k q)) h ∙ maximal-right k i p q))) (λ i l. rw (zero-add, zero-add) (start-right k i p q))))
+      (lowest-same _ _ (rangeStart t from k) _ k 0 0 (2 ^ (m - k)) (λ i l. ap (λ (x : Bool). freeRange f t from k (0 + i) && x) (same (0 + i) (omega arith)))
+      (λ i l. refl))
+      (lowest-same _ _ (rangeStart t from k) _ k (0 + 2 ^ (m - k)) 0 (2 ^ (m - k))
+      (λ i l. rw (zero-add, zero-add) (ap₂ _&&_ (free-right k i p q) (same (2 ^ (m - k) + i) (omega arith) ∙ maximal-right k i p q)))
+      (λ i l. rw (zero-add, zero-add) (start-right k i p q))))
+    where
+      same : (i : ℕ) → i < 2 ^ (m - k) + 2 ^ (m - k) → maximal f t from (suc m) k i ≡ maximal f t from m k i
+      same i l = maximal-same k i q (omega (arith, two k q)) h
 
-  halves : (k n : ℕ) → t ≤ k → k + n ≡ suc m → allFree f from (2 ^ (suc m - t)) ≡ false → fromOrder f t from (suc m) k (suc n) ≡ smallerOf (fromOrder f t from m k n) (fromOrder f t (from + 2 ^ (m - t)) m k n)
+  halves : (k n : ℕ) → t ≤ k → k + n ≡ suc m → allFree f from (2 ^ (suc m - t)) ≡ false
+      → fromOrder f t from (suc m) k (suc n) ≡ smallerOf (fromOrder f t from m k n) (fromOrder f t middle m k n)
   unfolding fromOrder
   halves k zero p e h = rw (top-none f t from (suc m) k (omega arith) h)
   halves k (suc n) p e h =
       rw (level k p (omega arith) h, halves (suc k) n (omega arith) (omega arith) h)
-      (smaller-else k (atOrder f t from m k) (atOrder f t (from + 2 ^ (m - t)) m k) _ _ (is-order f t from m k) (is-order f t _ m k) (from-order f t from m (suc k) n) (from-order f t _ m (suc k) n))
+      (smaller-else k (atOrder f t from m k) (atOrder f t middle m k) _ _ (is-order f t from m k) (is-order f t middle m k)
+      (from-order f t from m (suc k) n) (from-order f t middle m (suc k) n))
 
 -- ---- the place
 pub place-whole : (f : ℕ → Bool) (t from m e : ℕ) → t ≤ e → e ≤ m → allFree f from (2 ^ (m - t)) ≡ true → placeIn f t from m e ≡ At from m
@@ -197,7 +214,8 @@ place-whole f t from m e p q h =
     let x : suc m - e ≡ suc (m - e) = omega arith in
     rw x (whole f t from m h e (m - e) p (omega arith))
 
-by-halves : (f : ℕ → Bool) (t from m e : ℕ) → t ≤ e → e ≤ suc m → allFree f from (2 ^ (suc m - t)) ≡ false → placeIn f t from (suc m) e ≡ smallerOf (placeIn f t from m e) (placeIn f t (from + 2 ^ (m - t)) m e)
+by-halves : (f : ℕ → Bool) (t from m e : ℕ) → t ≤ e → e ≤ suc m → allFree f from (2 ^ (suc m - t)) ≡ false
+    → placeIn f t from (suc m) e ≡ smallerOf (placeIn f t from m e) (placeIn f t (from + 2 ^ (m - t)) m e)
 unfolding placeIn
 by-halves f t from m e p l h = let x : suc (suc m) - e ≡ suc (suc m - e) = omega arith in rw x (halves f t from m e (suc m - e) p (omega arith) h)
 

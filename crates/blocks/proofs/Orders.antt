@@ -34,7 +34,8 @@ order-is : (n k m : ℕ) → (orderFrom n k m ≡ 0 → ⊥) → IsOrder n k m (
 order-is n zero m d = absurd (d refl)
 order-is n (suc k) m d = go (eqb n (2 ^ m)) refl d (order-is n k (suc m))
   where
-    go : (b : Bool) → eqb n (2 ^ m) ≡ b → (cond b m (orderFrom n k (suc m)) ≡ 0 → ⊥) → ((orderFrom n k (suc m) ≡ 0 → ⊥) → IsOrder n k (suc m) (orderFrom n k (suc m)))
+    go : (b : Bool) → eqb n (2 ^ m) ≡ b → (cond b m (orderFrom n k (suc m)) ≡ 0 → ⊥)
+        → ((orderFrom n k (suc m) ≡ 0 → ⊥) → IsOrder n k (suc m) (orderFrom n k (suc m)))
         → IsOrder n (suc k) m (cond b m (orderFrom n k (suc m)))
     go true e c ih = record { low = omega arith; high = omega arith; size = eqb-true n (2 ^ m) e }
     go false e c ih =
@@ -81,6 +82,10 @@ needed-is : (n k e : ℕ) → n ≤ 2 ^ (e + k) → Needed e (e + k) n (neededFr
 needed-is n zero e h = record { low = omega arith; high = omega arith; enough = rw add-zero at h; least = λ k l q. l }
 needed-is n (suc k) e h = go (leb n (2 ^ e)) refl (needed-is n k (suc e) (rw (suc-add, ← add-suc) h))
   where
+    -- the order e itself is too small
+    small : 2 ^ e < n → (j : ℕ) → n ≤ 2 ^ j → e ≡ j → ⊥
+    small z j s x = let y : 2 ^ e ≡ 2 ^ j = ap (λ (i : ℕ). 2 ^ i) x in omega arith
+
     go : (b : Bool) → leb n (2 ^ e) ≡ b → Needed (suc e) (suc e + k) n (neededFrom n k (suc e)) → Needed e (e + suc k) n (cond b e (neededFrom n k (suc e)))
     go true q r = record { low = omega arith; high = omega arith; enough = leb-true n (2 ^ e) q; least = λ k l s. l }
     go false q r =
@@ -88,7 +93,7 @@ needed-is n (suc k) e h = go (leb n (2 ^ e)) refl (needed-is n k (suc e) (rw (su
           low = omega (arith, r .low);
           high = omega (arith, r .high);
           enough = r .enough;
-          least = λ j l s. ⊎-elim (λ x. absurd (let y : 2 ^ e ≡ 2 ^ j = ap (λ (i : ℕ). 2 ^ i) x in let z : 2 ^ e < n = leb-false n (2 ^ e) q in omega arith)) (λ x. r .least j x s) (eq-or-lt-of-le l);
+          least = λ j l s. ⊎-elim (λ x. absurd (small (leb-false n (2 ^ e) q) j s x)) (λ x. r .least j x s) (eq-or-lt-of-le l);
         }
 
 pub needed-order : (t m n : ℕ) → t ≤ m → n ≤ 2 ^ m → Needed t m n (neededOrder t m n)

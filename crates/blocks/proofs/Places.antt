@@ -34,7 +34,8 @@ module _ (p : ℕ → Bool) (s : ℕ → ℕ) (k : ℕ) where
   lowest-hit b zero x j q = let z : _≡_ {A = ℕ} 0 1 = cc in absurd (omega arith)
   lowest-hit b (suc n) x j q = go (p b) refl q (lowest-hit (suc b) n x j)
     where
-      go : (c : Bool) → p b ≡ c → cond c (At (s b) k) (lowest p s k (suc b) n) ≡ At x j → (lowest p s k (suc b) n ≡ At x j → Hit p s k (suc b) n x j) → Hit p s k b (suc n) x j
+      go : (c : Bool) → p b ≡ c → cond c (At (s b) k) (lowest p s k (suc b) n) ≡ At x j
+          → (lowest p s k (suc b) n ≡ At x j → Hit p s k (suc b) n x j) → Hit p s k b (suc n) x j
       go true e r ih =
           let y : s b ≡ x = cc in
           let z : k ≡ j = cc in
@@ -48,7 +49,8 @@ module _ (p : ℕ → Bool) (s : ℕ → ℕ) (k : ℕ) where
   lowest-miss b zero q i lo hi = absurd (omega arith)
   lowest-miss b (suc n) q i lo hi = go (p b) refl q (lowest-miss (suc b) n)
     where
-      go : (c : Bool) → p b ≡ c → cond c (At (s b) k) (lowest p s k (suc b) n) ≡ Nothing → (lowest p s k (suc b) n ≡ Nothing → (i : ℕ) → suc b ≤ i → i < suc b + n → p i ≡ false) → p i ≡ false
+      go : (c : Bool) → p b ≡ c → cond c (At (s b) k) (lowest p s k (suc b) n) ≡ Nothing
+          → (lowest p s k (suc b) n ≡ Nothing → (i : ℕ) → suc b ≤ i → i < suc b + n → p i ≡ false) → p i ≡ false
       go true e r ih = let z : _≡_ {A = ℕ} 0 1 = cc in absurd (omega arith)
       go false e r ih = ⊎-elim (λ x. subst (λ (y : ℕ). p y ≡ false) x e) (λ x. ih r i x (omega arith)) (eq-or-lt-of-le lo)
 
@@ -81,7 +83,8 @@ module _ (f : ℕ → Bool) (t from m : ℕ) where
   from-sound k zero s j l h = let z : _≡_ {A = ℕ} 0 1 = cc in absurd (omega arith)
   from-sound k (suc n) s j l h = go (atOrder f t from m k) refl h (from-sound (suc k) n s j (omega arith))
     where
-      go : (x : Place) → atOrder f t from m k ≡ x → orElse x (fromOrder f t from m (suc k) n) ≡ At s j → (fromOrder f t from m (suc k) n ≡ At s j → FreePlace f t from m (suc k) s j) → FreePlace f t from m k s j
+      go : (x : Place) → atOrder f t from m k ≡ x → orElse x (fromOrder f t from m (suc k) n) ≡ At s j
+          → (fromOrder f t from m (suc k) n ≡ At s j → FreePlace f t from m (suc k) s j) → FreePlace f t from m k s j
       go Nothing a b ih =
           let r = ih b in
           record { low = omega (arith, r .low); high = r .high; number = r .number; among = r .among; start = r .start; free = r .free }
@@ -112,7 +115,8 @@ module _ (f : ℕ → Bool) (t from m : ℕ) where
     none-free : (d k b : ℕ) → k + d ≡ m → e ≤ k → b < 2 ^ (m - k) → freeRange f t from k b ≡ false
     unfolding maximal
     none-free zero k b q lo l =
-        ⊎-elim (λ x. x) (λ x. let z : eqb k m ≡ true = eq-eqb k m (omega arith) in absurd (true≢false (sym (rw z refl) ∙ x))) (and-false-cases _ _ (none-fits k b lo (omega arith) l))
+        let top : eqb k m ≡ true = eq-eqb k m (omega arith) in
+        ⊎-elim (λ x. x) (λ x. absurd (true≢false (sym (rw top refl) ∙ x))) (and-false-cases _ _ (none-fits k b lo (omega arith) l))
     none-free (suc d) k b q lo l =
         let outer : freeRange f t from (suc k) (b / 2) ≡ false =
         none-free d (suc k) (b / 2) (omega arith) (omega arith) (omega (arith, doubled (m - suc k) (m - k) (omega arith))) in

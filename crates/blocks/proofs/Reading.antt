@@ -63,13 +63,14 @@ module _ (t : ℕ) (b : Block) where
             first = rw (add-zero, o) (eqb-true _ _ (and-right (not (eqb e 0)) _ w));
           }
 
-      go : (c : Bool) → not (eqb e 0) && eqb (i % 2 ^ (e - t)) 0 ≡ c → List·Memᴰ b (cond c (block (base + i * 2 ^ t) e ∷ blocksFrom t (suc i) s) (blocksFrom t (suc i) s))
+      go : (c : Bool) → not (eqb e 0) && eqb (i % 2 ^ (e - t)) 0 ≡ c
+          → List·Memᴰ b (cond c (block (base + i * 2 ^ t) e ∷ blocksFrom t (suc i) s) (blocksFrom t (suc i) s))
           → (List·Memᴰ b (blocksFrom t (suc i) s) → Read t (suc i) s b) → Read t i (e ∷ s) b
       go true w k ih = ⊎-elim (here w) (λ j. later i e s (ih j)) (List·Memᴰ·cases-cons k)
       go false w k ih = later i e s (ih k)
 
-  read-at : (i : ℕ) (s : List ℕ) (j : ℕ) → j < length s → getD s j 0 ≡ b .order → (b .order ≡ 0 → ⊥) → b .start ≡ base + (i + j) * 2 ^ t → (i + j) % 2 ^ (b .order - t) ≡ 0
-      → List·Memᴰ b (blocksFrom t i s)
+  read-at : (i : ℕ) (s : List ℕ) (j : ℕ) → j < length s → getD s j 0 ≡ b .order → (b .order ≡ 0 → ⊥)
+      → b .start ≡ base + (i + j) * 2 ^ t → (i + j) % 2 ^ (b .order - t) ≡ 0 → List·Memᴰ b (blocksFrom t i s)
   unfolding blocksFrom
   read-at i [] j l e n p f = absurd (omega arith)
   read-at i (x ∷ s) zero l e n p f =
@@ -80,7 +81,8 @@ module _ (t : ℕ) (b : Block) where
       let q : i + suc j ≡ suc i + j = rw (suc-add, add-suc) in
       go (not (eqb x 0) && eqb (i % 2 ^ (x - t)) 0) (read-at (suc i) s j (omega arith) e n (rw q at p) (rw q at f))
     where
-      go : (c : Bool) → List·Memᴰ b (blocksFrom t (suc i) s) → List·Memᴰ b (cond c (block (base + i * 2 ^ t) x ∷ blocksFrom t (suc i) s) (blocksFrom t (suc i) s))
+      go : (c : Bool) → List·Memᴰ b (blocksFrom t (suc i) s)
+          → List·Memᴰ b (cond c (block (base + i * 2 ^ t) x ∷ blocksFrom t (suc i) s) (blocksFrom t (suc i) s))
       go true k = List·Memᴰ·tail k
       go false k = k
 
@@ -111,7 +113,8 @@ module _ (t m : ℕ) (one : 1 ≤ t) (le : t ≤ m) (bs : List Block) (set : Blo
           let here : slotOf t (base + r .at * 2 ^ t) ≡ r .at = slot-start t (r .at) in
           let o : b .order ≡ e = order ∙ ap orderIn w in
           let f : r .at % 2 ^ (e - t) ≡ 0 = subst (λ (x : ℕ). r .at % 2 ^ (x - t) ≡ 0) o (rw zero-add at (r .first)) in
-          let a : r .at ≡ z .first = only-multiple (e - t) (z .index) (r .at) (omega (arith, j .low, z .multiple)) (omega (arith, j .high, z .multiple)) f ∙ sym (z .multiple) in
+          let a : r .at ≡ z .first =
+          only-multiple (e - t) (z .index) (r .at) (omega (arith, j .low, z .multiple)) (omega (arith, j .high, z .multiple)) f ∙ sym (z .multiple) in
           let p : b .start ≡ base + r .at * 2 ^ t = rw zero-add at (r .start) in
           let u : b .start ≡ s = p ∙ ap (λ (x : ℕ). base + x * 2 ^ t) a ∙ sym (z .start) in
           Memᴰ·cast (λ i. record { start = u i; order = o i }) (n .mem)
@@ -211,7 +214,8 @@ module _ (t m : ℕ) (one : 1 ≤ t) (s : List ℕ) (len : length s ≡ 2 ^ (m -
         free = λ i h. not-taken i h (getD s i 0) refl (decLt i (length s));
       }
     where
-      not-taken : (i : ℕ) → ((b : Block) → List·Memᴰ b (blocksOf t s) → holds b (base + i * 2 ^ t) ≡ false) → (e : ℕ) → getD s i 0 ≡ e → Dec (i < length s) → e ≡ 0
+      not-taken : (i : ℕ) → ((b : Block) → List·Memᴰ b (blocksOf t s) → holds b (base + i * 2 ^ t) ≡ false)
+          → (e : ℕ) → getD s i 0 ≡ e → Dec (i < length s) → e ≡ 0
       not-taken i h zero q d = refl
       not-taken i h (suc e) q (no d) = sym q ∙ List·getD-eq-default s 0 (omega arith)
       not-taken i h (suc e) q (yes l) =

@@ -53,7 +53,9 @@ module _ (t m : ℕ) (one : 1 ≤ t) (le : t ≤ m) (bs : List Block) (set : Blo
   unfolding tableOf
   table-entry i = elim (decLt i (2 ^ (m - t))) [
     | yes l ↦ entries-at t bs base (2 ^ (m - t)) i l
-    | no l ↦ List·getD-eq-default (tableOf t m bs) 0 (omega (arith, table-length t m bs)) ∙ sym (ap orderIn (outside-missing t m bs set (base + i * 2 ^ t) (inr (past i (omega arith)))))
+    | no l ↦
+        List·getD-eq-default (tableOf t m bs) 0 (omega (arith, table-length t m bs))
+        ∙ sym (ap orderIn (outside-missing t m bs set (base + i * 2 ^ t) (inr (past i (omega arith)))))
   ]
 
   pub table-taken : (i s e : ℕ) → referentOf bs (base + i * 2 ^ t) ≡ Found s e → getD (tableOf t m bs) i 0 ≡ e
@@ -97,13 +99,15 @@ module _ (t m : ℕ) (one : 1 ≤ t) (le : t ≤ m) (bs : List Block) (set : Blo
       let n = found-member bs _ s e h in
       let j = held-slots t m (block s e) z _ (n .held) in
       let here : slotOf t (base + i * 2 ^ t) ≡ i = slot-start t i in
-      let f : floor (e - t) i ≡ z .first = floor-multiple (e - t) (z .index) i (omega (arith, j .low, z .multiple)) (omega (arith, j .high, z .multiple)) ∙ sym (z .multiple) in
+      let f : floor (e - t) i ≡ z .first =
+      floor-multiple (e - t) (z .index) i (omega (arith, j .low, z .multiple)) (omega (arith, j .high, z .multiple)) ∙ sym (z .multiple) in
       record {
         low = a .low;
         high = a .high;
         entries = λ k lo hi.
             let there : slotOf t (base + k * 2 ^ t) ≡ k = slot-start t k in
-            table-taken k s e (member-found t m bs set (block s e) _ (n .mem) (slots-held t m (block s e) z _ (record { past = omega arith; low = omega arith; high = omega arith })));
+            let held = slots-held t m (block s e) z (base + k * 2 ^ t) (record { past = omega arith; low = omega arith; high = omega arith }) in
+            table-taken k s e (member-found t m bs set (block s e) _ (n .mem) held);
       }
 
   slot-good : (i : ℕ) → Good t m (tableOf t m bs) i

@@ -42,7 +42,8 @@ unfolding referentOf
 found-member [] q s e h = let z : _≡_ {A = ℕ} 0 1 = cc in absurd (omega arith)
 found-member (b ∷ bs) q s e h = go (holds b q) refl h (found-member bs q s e)
   where
-    go : (c : Bool) → holds b q ≡ c → cond c (Found (b .start) (b .order)) (referentOf bs q) ≡ Found s e → (referentOf bs q ≡ Found s e → Member bs (block s e) q) → Member (b ∷ bs) (block s e) q
+    go : (c : Bool) → holds b q ≡ c → cond c (Found (b .start) (b .order)) (referentOf bs q) ≡ Found s e
+        → (referentOf bs q ≡ Found s e → Member bs (block s e) q) → Member (b ∷ bs) (block s e) q
     go true w k ih =
         let x : s ≡ b .start = cc in
         let y : e ≡ b .order = cc in

@@ -45,12 +45,14 @@ pub record Slots (t m : ℕ) (b : Block) : Type 0 where
 
 pub slots-of : (t m : ℕ) (b : Block) → Aligned t m b → Slots t m b
 slots-of t m b a =
-    let k : 2 ^ b .order ≡ 2 ^ (b .order - t) * 2 ^ t = pow-split t (b .order) (a .low) in
+    let slots : ℕ = 2 ^ (b .order - t) in
+    let first : ℕ = a .index * slots in
+    let k : 2 ^ b .order ≡ slots * 2 ^ t = pow-split t (b .order) (a .low) in
     let n : 2 ^ m ≡ 2 ^ (m - t) * 2 ^ t = pow-split t m (omega (arith, a .low, a .high)) in
-    let i : a .index * 2 ^ b .order ≡ a .index * 2 ^ (b .order - t) * 2 ^ t = ap (λ (x : ℕ). a .index * x) k ∙ sym (mul-assoc (a .index) (2 ^ (b .order - t)) (2 ^ t)) in
-    let j : (a .index * 2 ^ (b .order - t) + 2 ^ (b .order - t)) * 2 ^ t ≡ a .index * 2 ^ (b .order - t) * 2 ^ t + 2 ^ (b .order - t) * 2 ^ t = add-mul (a .index * 2 ^ (b .order - t)) (2 ^ (b .order - t)) (2 ^ t) in
+    let i : a .index * 2 ^ b .order ≡ first * 2 ^ t = ap (λ (x : ℕ). a .index * x) k ∙ sym (mul-assoc (a .index) slots (2 ^ t)) in
+    let j : (first + slots) * 2 ^ t ≡ first * 2 ^ t + slots * 2 ^ t = add-mul first slots (2 ^ t) in
     record {
-      first = a .index * 2 ^ (b .order - t);
+      first = first;
       start = a .place ∙ ap (λ (x : ℕ). base + x) i;
       size = k;
       within = le-of-mul-le-mul-right (omega (arith, a .inside, a .place)) (pow-pos t);
@@ -103,4 +105,5 @@ module _ (t m : ℕ) (b : Block) (z : Slots t m b) (q : ℕ) where
   slots-held h =
       let x : z .first * 2 ^ t ≤ q - base = le-div-iff-mul-le (pow-pos t) .0 (h .low) in
       let y : q - base < (z .first + 2 ^ (b .order - t)) * 2 ^ t = div-lt-iff-lt-mul (pow-pos t) .0 (h .high) in
-      and-both (le-leb (b .start) q (omega (arith, z .start, h .past))) (lt-ltb q (b .start + 2 ^ b .order) (omega (arith, z .start, z .size, h .past, size-in)))
+      and-both (le-leb (b .start) q (omega (arith, z .start, h .past)))
+      (lt-ltb q (b .start + 2 ^ b .order) (omega (arith, z .start, z .size, h .past, size-in)))

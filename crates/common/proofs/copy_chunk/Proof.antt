@@ -26,9 +26,10 @@ same-length c = search needs
 
 returns : tie.Need-returns
 returns c =
-    let stored = c .before .before in
-    let read = stored .before .before .before .before in
-    let a = read .before .before .before .before .args in
+    let stored : tie.After-copy-from-slice2 = c .before .before in
+    let read : tie.After-copy-from-slice = stored .before .before .before .before in
+    let start : tie.Start = read .before .before .before .before in
+    let a = start .args in
     stored .copy-from-slice2 .ensures
     ∙ ap (λ (x : List ℕ). copied (a .s .now) (a .to) x 0 (a .n)) (read .copy-from-slice .ensures)
     ∙ held-chunk (a .s .now) _ (a .to) (a .from) (a .n) (omega arith)

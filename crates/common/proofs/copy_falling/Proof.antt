@@ -38,14 +38,27 @@ copy-chunk-requires c κs = search needs
 loop-less : tie.Need-loop-less Inv-loop μ-loop
 loop-less c = search needs
 
+-- a chunk has been copied
+module _ (c : tie.After-slice-known2 Inv-loop μ-loop) where
+  abbrev stored : tie.After-copy-chunk Inv-loop μ-loop
+  stored = c .before .before
+
+  abbrev measured : tie.After-chunk-length Inv-loop μ-loop
+  measured = stored .before .before
+
+  abbrev head : tie.At-loop Inv-loop μ-loop
+  head = measured .before .before
+
+  abbrev start : tie.Start Inv-loop μ-loop
+  start = head .before .before
+
 loop-again : tie.Need-loop-again Inv-loop μ-loop
 loop-again c =
-    let chunk = c .before .before in
-    let n = chunk .before .before .chunk-length .result in
-    let l = chunk .before .before .before .before .loop in
-    let a = chunk .before .before .before .before .before .before .args in
+    let n = measured c .chunk-length .result in
+    let l = head c .loop in
+    let a = start c .args in
     let e = falling-turn (l .s) (a .to) (a .from) (l .k) n (omega arith) (omega arith) (omega arith) (omega arith) in
-    let p = ap (λ (x : List ℕ). copied x (a .to) x (a .from) (l .k - n)) (chunk .copy-chunk .ensures) in
+    let p = ap (λ (x : List ℕ). copied x (a .to) x (a .from) (l .k - n)) (stored c .copy-chunk .ensures) in
     (omega arith, p ∙ e ∙ l .inv .1, omega arith)
 
 same-length : tie.Need-same-length Inv-loop μ-loop

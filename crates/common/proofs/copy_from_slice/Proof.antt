@@ -1,3 +1,4 @@
+-- The invariant: what is still to be copied from i on gives what the whole copy gives. Each turn stores one byte (`copy-turn`).
 use Prim.Native.Nat.{_+_, _-_, _≤_}
 use mathlib.Core.Path.{_≡_, refl, sym, _∙_}
 use native.Mathlib.Omega.{arith}

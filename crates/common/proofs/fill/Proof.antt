@@ -1,3 +1,4 @@
+-- The invariant: what is still to be filled from i on gives what the whole fill gives. Each turn stores one byte (`fill-turn`).
 use Prim.Native.Nat.{_+_, _-_, _≤_}
 use mathlib.Core.Path.{_≡_, refl, sym, _∙_}
 use native.Mathlib.Omega.{arith}

@@ -1,3 +1,4 @@
+-- The invariant: v is the number of the k bytes read, which k bytes can hold, so that a turn stays below 2 ^ 32.
 use Prim.Native.Nat.{ℕ, _+_, _-_, _*_, _^_, _≤_, _<_}
 use mathlib.Core.Path.{_≡_, refl, sym, _∙_, ap, ap₂}
 use native.Mathlib.Omega.{arith}
@@ -29,12 +30,22 @@ shared-slice-read-wide c = search needs
 wide-requires : tie.Need-wide-requires Inv-loop μ-loop
 wide-requires c κs = search needs
 
-turn : (c : tie.After-wide Inv-loop μ-loop) → let l = c .before .before .before .loop in (l .v * 256 + c .wide .result < 256 ^ (l .k + 1)) × (l .v * 256 + c .wide .result < 2 ^ 32)
-turn c =
-    let l = c .before .before .before .loop in
-    let k = c .before .before .before .before in
-    let b : c .wide .result < 256 = omega (arith, c .wide .ensures, k .shared-slice-known .given (k .before .args .at + l .k)) in
-    read-fits (l .k) (l .v) (c .wide .result) (l .inv .2) b (omega arith)
+-- a byte is read
+module _ (c : tie.After-wide Inv-loop μ-loop) where
+  abbrev head : tie.At-loop Inv-loop μ-loop
+  head = c .before .before .before
+
+  abbrev start : tie.Start Inv-loop μ-loop
+  start = head .before .before
+
+  -- v after the turn
+  abbrev v′ : ℕ
+  v′ = head .loop .v * 256 + c .wide .result
+
+  turn : (v′ < 256 ^ (head .loop .k + 1)) × (v′ < 2 ^ 32)
+  turn =
+      let byte : c .wide .result < 256 = omega (arith, c .wide .ensures, head .before .shared-slice-known .given (start .args .at + head .loop .k)) in
+      read-fits (head .loop .k) (head .loop .v) (c .wide .result) (head .loop .inv .2) byte (omega arith)
 
 add-v : tie.Need-add-v Inv-loop μ-loop
 add-v c = record { fits = turn c .1 }
@@ -47,8 +58,8 @@ loop-less c = search needs
 
 loop-again : tie.Need-loop-again Inv-loop μ-loop
 loop-again c =
-    let l = c .before .before .before .loop in
-    let a = c .before .before .before .before .before .args in
+    let l = head c .loop in
+    let a = start c .args in
     (omega arith, ap₂ (λ (x y : ℕ). x * 256 + y) (l .inv .1) (c .wide .ensures) ∙ sym (read-turn (a .s .now) (a .at) (l .k)), turn c .0)
 
 returns : tie.Need-returns Inv-loop μ-loop

@@ -1,3 +1,4 @@
+-- The invariant: storing the k bytes that are left of `rest` gives what storing all of v gives. Each turn stores the lowest of them (`write-turn`).
 use Prim.Native.Nat.{_≤_}
 use mathlib.Core.Path.{_≡_, refl, sym, _∙_}
 use native.Mathlib.Omega.{arith}
