@@ -6,7 +6,7 @@ use native.Mathlib.Nat.{add-zero, zero-add, add-suc, suc-add, two-pow-succ}
 use native.Mathlib.Omega.{arith}
 use lib.Pow.{pow-pos, high, low}
 use Rattle.blocks.specs.Placing.{allFree}
-use Rattle.blocks.specs.Searching.{bitsOf}
+use Rattle.blocks.specs.Inner.{bitsOf}
 
 module _ (f : ℕ → Bool) where
   -- a bit more, in front

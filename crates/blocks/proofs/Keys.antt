@@ -7,7 +7,7 @@ use lib.Pow.{pow-pos}
 use Rattle.blocks.specs.declared.Place.{Place}
 use Rattle.blocks.specs.declared.Place.the-variants.{At, Nothing}
 use Rattle.blocks.specs.Placing.{placeIn}
-use Rattle.blocks.specs.Searching.{keyOf}
+use Rattle.blocks.specs.Inner.{keyOf}
 use Rattle.blocks.proofs.Halves.{smallerOf, smaller-left, smaller-right}
 use Rattle.blocks.proofs.Places.{FreePlace, place-sound, range-inside}
 

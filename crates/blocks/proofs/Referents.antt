@@ -11,7 +11,7 @@ use lib.ListN.{length, getD}
 use Rattle.blocks.specs.Blocks.{base, floor, Aligned}
 use Rattle.blocks.specs.Tables.{damagedBy, blockRound, referentIn}
 use Rattle.blocks.specs.Pointers.{marked, address, sought, referentAt}
-use Rattle.blocks.specs.Seeking.{fromZero}
+use Rattle.blocks.specs.Inner.{fromZero}
 use Rattle.blocks.specs.declared.Referent.the-variants.{Missing, Found}
 use Rattle.common.proofs.Booleans.{and-left, and-right, and-both}
 use Rattle.blocks.proofs.Floors.{floor-le, lt-floor, floor-same}

@@ -12,7 +12,7 @@ use lib.ListN.{length, getD}
 use Rattle.blocks.specs.Blocks.{floor}
 use Rattle.blocks.specs.Tables.{bad, damagedBy}
 use Rattle.blocks.specs.Placing.{allFree}
-use Rattle.blocks.specs.Searching.{hasEntry, single, inRow}
+use Rattle.blocks.specs.Inner.{hasEntry, single, inRow}
 use Rattle.common.proofs.Booleans.{and-left, and-right, or-right}
 use Rattle.blocks.proofs.Floors.{floor-le, lt-floor, floor-end, floor-quotient, pow-split}
 use Rattle.blocks.proofs.Runs.{all-at, at-all}

@@ -15,7 +15,7 @@ use Rattle.blocks.specs.declared.Place.{Place}
 use Rattle.blocks.specs.declared.Place.the-variants.{Nothing}
 use Rattle.blocks.specs.Tables.{damagedBy, freeIn}
 use Rattle.blocks.specs.Placing.{allFree, placeIn}
-use Rattle.blocks.specs.Searching.{bitsOf, asFree, decidedBy, PartOf, keyOf}
+use Rattle.blocks.specs.Inner.{bitsOf, asFree, decidedBy, PartOf, keyOf}
 use Rattle.blocks.proofs.Floors.{floor-le, lt-floor, floor-quotient, pow-split}
 use Rattle.blocks.proofs.Tables.{undamaged-whole}
 use Rattle.blocks.proofs.Bits.{bits-none, bits-all, all-bits}

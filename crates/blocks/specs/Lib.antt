@@ -4,5 +4,4 @@ pub mod Sets
 pub mod Pointers
 pub mod Orders
 pub mod Placing
-pub mod Searching
-pub mod Seeking
+pub mod Inner

@@ -30,6 +30,10 @@ abbrev pub referentAt : (ℕ → Referent) → ℤ → Referent
 referentAt f (pos q) = f q
 referentAt f (negsuc n) = Missing
 
+-- the referent of a pointer, plain or marked
+abbrev pub pointerReferent : ℕ → (ℕ → Referent) → ℕ → Referent
+pointerReferent t f p = referentAt f (sought t p)
+
 -- the number that 32 bits stand for in two's complement
 unfoldable pub signed : ℕ → ℤ
 signed i = cond (ltb (i % 2 ^ 32) (2 ^ 31)) (pos (i % 2 ^ 32)) (subℕ (i % 2 ^ 32) (2 ^ 32))

@@ -5,10 +5,10 @@ ghost use lib.ListN.{length};
 ghost use Prim.Native.Nat.{_+_, _-_, _^_, _≤_, _<_};
 ghost use Rattle.blocks.specs.Blocks.{floor, holds};
 ghost use Rattle.blocks.specs.Orders.{orderOf, neededOrder};
-ghost use Rattle.blocks.specs.Seeking.{fromZero};
+ghost use Rattle.blocks.specs.Inner.{fromZero};
 ghost use Rattle.blocks.specs.Tables.{damagedBy, freeIn, referentIn};
 ghost use Rattle.blocks.specs.Placing.{placeIn};
-ghost use Rattle.blocks.specs.Pointers.{sought, referentAt, marked, address, exactSum, wrappedSum, checkBits, within};
+ghost use Rattle.blocks.specs.Pointers.{sought, pointerReferent, marked, address, exactSum, wrappedSum, checkBits, within};
 use common::wide;
 use search::KEYS;
 use search::NOWHERE;
@@ -141,7 +141,7 @@ pub fn sought_address(t: u32, p: u32) -> u32
 }
 
 // The block that holds the address q, by an undamaged table.
-pub fn referent_at(table: &[u8], t: u32, m: u32, q: u32) -> Referent
+pub fn referent_in(table: &[u8], t: u32, m: u32, q: u32) -> Referent
     requires { ⌜ (1 ≤ t) × (t ≤ m) × (m ≤ 16) × (length (now table) ≡ 2 ^ (m - t)) × (damagedBy t m (now table) ≡ false) ⌝ }
     ensures { λ r. ⌜ r ≡ referentIn t (now (table .entry)) q ⌝ }
 {
@@ -162,11 +162,11 @@ pub fn referent_at(table: &[u8], t: u32, m: u32, q: u32) -> Referent
 }
 
 // The referent of a pointer, plain or marked.
-pub fn referent_of(table: &[u8], t: u32, m: u32, p: u32) -> Referent
+pub fn pointer_referent(table: &[u8], t: u32, m: u32, p: u32) -> Referent
     requires { ⌜ (1 ≤ t) × (t ≤ m) × (m ≤ 16) × (length (now table) ≡ 2 ^ (m - t)) × (damagedBy t m (now table) ≡ false) ⌝ }
-    ensures { λ r. ⌜ r ≡ referentAt (referentIn t (now (table .entry))) (sought t p) ⌝ }
+    ensures { λ r. ⌜ r ≡ pointerReferent t (referentIn t (now (table .entry))) p ⌝ }
 {
-    referent_at(table, t, m, sought_address(t, p))
+    referent_in(table, t, m, sought_address(t, p))
 }
 
 // Whether the table of an arena of order m is damaged. The scan is lent a part that is the whole table: a slice that is handed on itself would be passed

@@ -7,7 +7,7 @@ ghost use lib.ListN.{length, getD};
 ghost use Prim.Native.Nat.{_+_, _-_, _^_, _≤_};
 ghost use Rattle.blocks.specs.Placing.{allFree};
 ghost use Rattle.blocks.specs.Tables.{damagedBy};
-ghost use Rattle.blocks.specs.Searching.{hasEntry, single, inRow};
+ghost use Rattle.blocks.specs.Inner.{hasEntry, single, inRow};
 use crate::ROW;
 use crate::ROW_LEVELS;
 use crate::slots_of;

@@ -8,7 +8,7 @@ ghost use lib.ListN.{length};
 ghost use Prim.Native.Nat.{_+_, _-_, _*_, _%_, _^_, _≤_, _<_};
 ghost use Rattle.blocks.specs.Placing.{allFree};
 ghost use Rattle.blocks.specs.Tables.{freeIn};
-ghost use Rattle.blocks.specs.Searching.{bitsOf, asFree, decidedBy, SearchedBits, SearchedPart};
+ghost use Rattle.blocks.specs.Inner.{bitsOf, asFree, decidedBy, SearchedBits, SearchedPart};
 use crate::ROW;
 use crate::ROW_LEVELS;
 use crate::size_of;

@@ -13,7 +13,7 @@ ghost use Rattle.heap.specs.Heaps.{heapOf, outcome, heapCall, heapFresh, heapCh
 ghost use Rattle.heap.specs.declared.Call.the-variants.{Get, Give, Step, Read, Write, Left, Copy, Fill};
 ghost use Rattle.history.specs.Replaying.{replayed, replayOf};
 ghost use Rattle.runner.specs.Runs.{screenful, runOf, panelOf};
-ghost use Rattle.runner.specs.Carrying.{ranTo};
+ghost use Rattle.runner.specs.Runs.{ranTo};
 ghost use Rattle.takes.specs.Files.{recordsOf};
 ghost use Rattle.takes.specs.Reading.{readAt};
 ghost use Rattle.takes.specs.Writing.{writeHead};

@@ -14,7 +14,7 @@ use Rattle.common.specs.Refusals.{Refusal, _when_, first}
 use Rattle.common.specs.Bytes.{bigEndian, bytesOf, over, copied}
 use Rattle.blocks.specs.Blocks.{base, floor, Aligned, leftIn}
 use Rattle.blocks.specs.Pointers.{markBit, marked, address, sought}
-use Rattle.blocks.specs.Seeking.{fromZero}
+use Rattle.blocks.specs.Inner.{fromZero}
 use Rattle.blocks.specs.declared.Referent.{Referent}
 use Rattle.blocks.specs.declared.Referent.the-variants.{Found}
 use Rattle.blocks.proofs.Floors.{pow-split, floor-same}

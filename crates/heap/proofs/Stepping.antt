@@ -14,7 +14,7 @@ use lib.Pow.{pow-mono}
 use Rattle.common.specs.Refusals.{_when_, first}
 use Rattle.blocks.specs.Blocks.{floor}
 use Rattle.blocks.specs.Pointers.{markBit, marked, address, sought, referentAt, signed, exactSum, wrappedSum, checkBits, inReach}
-use Rattle.blocks.specs.Seeking.{fromZero}
+use Rattle.blocks.specs.Inner.{fromZero}
 use Rattle.blocks.specs.Tables.{referentIn}
 use Rattle.blocks.specs.declared.Referent.{Referent}
 use Rattle.blocks.specs.declared.Referent.the-variants.{Found}

@@ -117,7 +117,7 @@ pub fn locate(table: &[u8], t: u32, m: u32, p: u32) -> Located
     requires { ⌜ (1 ≤ t) × (t ≤ m) × (m ≤ 16) × (length (now table) ≡ 2 ^ (m - t)) × (damagedBy t m (now table) ≡ false) ⌝ }
     ensures { λ r. ⌜ r ≡ located (heapView t m (heapOf [] (now (table .entry)))) p ⌝ }
 {
-    match blocks::referent_of(table, t, m, p) {
+    match blocks::pointer_referent(table, t, m, p) {
         Referent::Missing => Located::Refused(22),
         Referent::Found(s, e) => Located::Inside(s, e),
     }

@@ -15,7 +15,7 @@ ghost use Rattle.takes.specs.Files.{sizeByte, fileNumber};
 ghost use Rattle.heap.specs.Heaps.{heapOf};
 ghost use Rattle.heap.specs.Answers.{answerLength};
 ghost use Rattle.runner.specs.Runs.{runOf};
-ghost use Rattle.runner.specs.Carrying.{ranTo};
+ghost use Rattle.runner.specs.Runs.{ranTo};
 ghost use Rattle.printing.specs.Fitting.{Fitting};
 
 fn print(text: &[u8]) {

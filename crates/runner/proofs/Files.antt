@@ -10,7 +10,7 @@ use Rattle.common.proofs.Refusals.{clear-number}
 use Rattle.takes.specs.Files.{walkFrom, headLength, headNumber, recordsNumber, fileNumber, recordsOf}
 use Rattle.takes.proofs.Walks.{from-spans}
 use Rattle.takes.proofs.Judging.{Head, head-accepted}
-use Rattle.runner.specs.Carrying.{mostRecords}
+use Rattle.runner.specs.Runs.{mostRecords}
 
 pub record Accepted (file : List ℕ) : Type 0 where
   pub head : Head file

@@ -1,7 +1,7 @@
 pub mod Files
 pub mod Records
 pub mod Running
-pub mod Judging
+pub mod RunRefusals
 pub mod Panel
 pub mod Computing
 pub mod Examples

@@ -1,6 +1,6 @@
 -- Panel takes: the two callers' rules differ in 26 alone, so where 26 does not apply, or a number before it does, the outcomes are one.
-use Prim.Native.Nat.{ℕ, zero, suc, _<_}
-use mathlib.Core.Path.{_≡_, refl, sym, _∙_}
+use Prim.Native.Nat.{ℕ, _<_}
+use mathlib.Core.Path.{_≡_, sym, _∙_}
 use mathlib.Core.Bool.{true, false}
 use mathlib.Core.List.{List}
 use native.Mathlib.Omega.{arith}
@@ -12,12 +12,9 @@ use Rattle.takes.specs.Files.{fileNumber, recordsOf}
 use Rattle.heap.specs.Heaps.{Heap}
 use Rattle.runner.specs.Runs.{screenful, crowded, runRules, runSettled, runBy, runOf, panelOf}
 use Rattle.runner.specs.Panel.{PanelAsUpload}
+use Rattle.runner.proofs.RunRefusals.{settled-number}
 
 module _ (file : List ℕ) (h : Heap) (out : List ℕ) where
-  settled-number : (k : ℕ) → runSettled k file h out .number ≡ k
-  settled-number zero = refl
-  settled-number (suc k) = refl
-
   -- what the screen can list
   uncrowded : crowded file ≡ false → panelOf file h out ≡ runOf file h out
   unfolding runBy
@@ -27,7 +24,7 @@ module _ (file : List ℕ) (h : Heap) (out : List ℕ) where
   accepted-listed : panelOf file h out .number ≡ 0 → crowded file ≡ false
   unfolding runBy
   accepted-listed z =
-      let clean = clear-number (fileNumber file) _ (sym (settled-number (first (runRules true file h out))) ∙ z) .1 in
+      let clean = clear-number (fileNumber file) _ (sym (settled-number (first (runRules true file h out)) file h out) ∙ z) .1 in
       clear-one 26 (crowded file) _ (λ z. omega arith) clean .0
 
   bad-file : (fileNumber file ≡ 0 → ⊥) → panelOf file h out ≡ runOf file h out

@@ -29,7 +29,7 @@ use Rattle.heap.proofs.AnswerBytes.{answers-next, answers-none}
 use Rattle.heap.specs.Registers.{registerCount, put}
 use Rattle.runner.specs.Decoding.{decoded, callOf, registersAfter}
 use Rattle.runner.specs.Runs.{Carried, carryOut}
-use Rattle.runner.specs.Carrying.{State, stateOf, oneRecord, allRecords, noRegister, indexOf, operandsOf, storedIn}
+use Rattle.runner.specs.Inner.{State, stateOf, oneRecord, allRecords, noRegister, indexOf, operandsOf, storedIn}
 
 pub all-next : (r : Record) (rest : List Record) (place : ℕ) (s : State) → place + answerLength ≤ length (s .answers)
     → allRecords (r ∷ rest) place s ≡ allRecords rest (place + answerLength) (oneRecord r place s)

@@ -21,7 +21,7 @@ use Rattle.history.proofs.CallLists.{slot-orders}
 use Rattle.history.proofs.Soundness.{SoundHeap, fresh-sound, call-sound}
 use Rattle.heap.specs.Registers.{registerCount, registersAtFirst}
 use Rattle.runner.specs.Decoding.{callOf}
-use Rattle.runner.specs.Carrying.{State, stateOf, atFirst, oneRecord, allRecords, Runnable, operandsOf}
+use Rattle.runner.specs.Inner.{State, stateOf, atFirst, oneRecord, allRecords, Runnable, operandsOf}
 use Rattle.runner.proofs.Files.{accepted-file}
 use Rattle.runner.proofs.Records.{all-next, all-none, low-registers}
 
@@ -38,6 +38,13 @@ pub record Going (m : ℕ) (file out₀ a tab rs out : List ℕ) (at place : ℕ
   pub sixteen : length rs ≡ registerCount
   pub same : length out ≡ length out₀
   pub rest : allRecords (walkFrom file at .records) place (stateOf a tab rs out) ≡ allRecords (recordsOf file) 0 (atFirst m out₀)
+
+-- the record r that comes next, at the place `at`, has been read, and the place `next` after it
+pub record Ready (out : List ℕ) (at place : ℕ) (r : Record) (next : ℕ) : Type 0 where
+  pub further : at < next
+  pub a-low : operandsOf r .a < registerCount
+  pub b-low : operandsOf r .b < registerCount
+  pub room : place + answerLength ≤ length out
 
 pub going-start : (m : ℕ) (file a tab out a′ tab′ rs : List ℕ) (x : Answer) → Runnable m file a tab out
     → outcome x a′ tab′ ≡ heapFresh (heapOf a tab) → rs ≡ registersAtFirst → Going m file out a′ tab′ rs out headLength 0
@@ -73,14 +80,13 @@ module _ {m : ℕ} {file out₀ a tab rs out : List ℕ} {at place : ℕ} (g : G
       to-come : walkFrom file at ≡ before r (walkFrom file next)
       to-come = found .to-come
 
-      pub going-further : at < next
-      going-further = omega (arith, found .beyond)
-
-      pub going-low : (operandsOf r .a < registerCount) × (operandsOf r .b < registerCount)
-      going-low = low-registers r (rw (found .the-record) (read-low (drop at file) (found .whole)))
-
-      pub going-room : place + answerLength * suc (length (walkFrom file next .records)) ≤ length out
+      going-room : place + answerLength * suc (length (walkFrom file next .records)) ≤ length out
       going-room = rw to-come at (g .room)
+
+      pub going-ready : Ready out at place r next
+      going-ready =
+          let low = low-registers r (rw (found .the-record) (read-low (drop at file) (found .whole))) in
+          record { further = omega (arith, found .beyond); a-low = low .0; b-low = low .1; room = omega (arith, going-room) }
 
       pub going-step : (a′ tab′ rs′ out′ : List ℕ) → stateOf a′ tab′ rs′ out′ ≡ oneRecord r place (stateOf a tab rs out)
           → length rs′ ≡ length rs → length out′ ≡ length out → Going m file out₀ a′ tab′ rs′ out′ next (place + answerLength)

@@ -1,4 +1,4 @@
 pub mod Decoding
 pub mod Runs
 pub mod Panel
-pub mod Carrying
+pub mod Inner

@@ -1,19 +1,20 @@
 -- Document 01, "A take", and document 02, "Panel takes": a run of a file, uploaded or from the front panel, on a lent arena, table and answer slice.
-use Prim.Native.Nat.{ℕ, zero, suc, _*_}
+use Prim.Native.Nat.{ℕ, zero, suc, _-_, _*_, _/_}
 use mathlib.Core.Bool.{Bool, true, false, not, _&&_}
 use mathlib.Core.List.{List, [], _∷_}
 use lib.Dec.{eqb, ltb}
 use lib.ListN.{length}
 use Rattle.common.specs.Refusals.{Refusal, _when_, first}
 use Rattle.common.specs.Bytes.{over}
-use Rattle.takes.specs.Files.{sizeByte, fileNumber, recordsOf}
+use Rattle.takes.specs.Files.{headLength, longest, sizeByte, fileNumber, recordsOf}
 use Rattle.takes.specs.declared.Record.{Record}
 use Rattle.heap.specs.Views.{slotOrder}
-use Rattle.heap.specs.Heaps.{Heap, wrongSizes, heapCall, freshHeap}
+use Rattle.heap.specs.Heaps.{Heap, heapOf, wrongSizes, heapCall, freshHeap}
 use Rattle.heap.specs.Answers.{answerLength, answersBytes}
 use Rattle.heap.specs.declared.Answer.{Answer}
 use Rattle.heap.specs.Registers.{registersAtFirst}
 use Rattle.runner.specs.Decoding.{callOf, registersAfter}
+use Rattle.runner.specs.declared.Ran.{Ran}
 
 -- what the records leave: their answers, the heap and the registers
 pub record Carried : Type 0 where
@@ -28,6 +29,10 @@ carryOut (r ∷ rest) h rs =
     let o = heapCall (callOf rs r) h in
     let next = carryOut rest (o .state) (registersAfter r (o .answer) rs) in
     record { answers = o .answer ∷ next .answers; heap = next .heap; registers = next .registers }
+
+-- no file has more records: each takes two bytes or more, its length byte and its operation
+abbrev pub mostRecords : ℕ
+mostRecords = (longest - headLength) / 2
 
 -- how many records the front panel's screen can list
 abbrev pub screenful : ℕ
@@ -53,6 +58,10 @@ pub record RunOutcome : Type 0 where
   pub count : ℕ
   pub heap : Heap
   pub answers : List ℕ
+
+-- what a run returned and the buffers that it left, as its outcome
+abbrev pub ranTo : Ran → List ℕ → List ℕ → List ℕ → RunOutcome
+ranTo r a tab out = record { number = r .number; registers = r .registers .values; count = r .count; heap = heapOf a tab; answers = out }
 
 -- refused, it returns sixteen zero registers and count 0, and changes nothing
 abbrev pub runSettled : ℕ → List ℕ → Heap → List ℕ → RunOutcome

@@ -6,7 +6,7 @@ use heap::registers::COUNT;
 use takes::Record;
 ghost use mathlib.Core.Path.{_≡_};
 ghost use Rattle.runner.specs.Decoding.{decoded};
-ghost use Rattle.runner.specs.Carrying.{operandsOf, storedIn};
+ghost use Rattle.runner.specs.Inner.{operandsOf, storedIn};
 
 // In place of a register's number, where there is none.
 const NO_REGISTER: u8 = COUNT as u8;

@@ -16,7 +16,8 @@ ghost use Rattle.heap.specs.Inner.{Sound};
 ghost use Rattle.takes.specs.Files.{recordsOf};
 ghost use Rattle.heap.specs.Registers.{registersAtFirst};
 ghost use Rattle.runner.specs.Runs.{screenful, runBy, runOf, panelOf};
-ghost use Rattle.runner.specs.Carrying.{stateOf, atFirst, allRecords, Runnable, ranTo};
+ghost use Rattle.runner.specs.Runs.{ranTo};
+ghost use Rattle.runner.specs.Inner.{stateOf, atFirst, allRecords, Runnable};
 
 mod decoding;
 
@@ -70,7 +71,8 @@ fn carry_out(
     m: u32,
 ) -> Registers
     requires { ⌜ Runnable m (now file) (now arena) (now table) (now answers) ⌝ }
-    ensures { λ r. ⌜ stateOf (now (arena .exit)) (now (table .exit)) (r .values) (now (answers .exit)) ≡ allRecords (recordsOf (now (file .entry))) 0 (atFirst m (now (answers .entry))) ⌝ }
+    ensures { λ r. ⌜ stateOf (now (arena .exit)) (now (table .exit)) (r .values) (now (answers .exit))
+        ≡ allRecords (recordsOf (now (file .entry))) 0 (atFirst m (now (answers .entry))) ⌝ }
 {
     heap::fresh(arena, table);
     let mut registers = registers::at_first();
@@ -132,7 +134,8 @@ fn run_by(panel: bool, file: &[u8], arena: &mut [u8], table: &mut [u8], answers:
 
 // Runs a take on a lent arena and table: an upload from a computer.
 pub fn run(file: &[u8], arena: &mut [u8], table: &mut [u8], answers: &mut [u8]) -> Ran
-    ensures { λ r. ⌜ ranTo r (now (arena .exit)) (now (table .exit)) (now (answers .exit)) ≡ runOf (now (file .entry)) (heapOf (now (arena .entry)) (now (table .entry))) (now (answers .entry)) ⌝ }
+    ensures { λ r. ⌜ ranTo r (now (arena .exit)) (now (table .exit)) (now (answers .exit))
+        ≡ runOf (now (file .entry)) (heapOf (now (arena .entry)) (now (table .entry))) (now (answers .entry)) ⌝ }
 {
     run_by(false, file, arena, table, answers)
 }

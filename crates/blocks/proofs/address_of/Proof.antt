@@ -1,4 +1,4 @@
--- `address_of` meets its contract.
+-- Each arm is given whether the pointer is marked; a marked one is at least 2 ^ 31, so the bit can be taken off.
 use mathlib.Core.Path.{sym, _∙_}
 use borrow.Author.Needs.{needs}
 use borrow.Author.Tests.{leb-true}

@@ -1,4 +1,4 @@
--- `damaged` meets its contract: the part of the table that is the whole of it is the table.
+-- The part of the table that is the whole of it is the table (`whole`).
 use Prim.Native.Nat.{ℕ, _-_}
 use mathlib.Core.List.{List}
 use mathlib.Core.Path.{_≡_, ap, _∙_}

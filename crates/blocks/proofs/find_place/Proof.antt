@@ -1,4 +1,5 @@
--- `find_place` meets its contract.
+-- The search answers with the key of the place. In an arena of at most 32,768 slots a key tells its place (`key-place`), and the largest tells that there is
+-- none (`key-nothing`).
 use Prim.Native.Nat.{ℕ, _+_, _-_, _^_, _≤_}
 use mathlib.Core.Path.{_≡_}
 use native.Mathlib.Omega.{arith}
@@ -7,7 +8,7 @@ use denote.Ref.{now}
 use lib.Pow.{pow-mono}
 use Rattle.blocks.specs.Tables.{freeIn}
 use Rattle.blocks.specs.Placing.{placeIn}
-use Rattle.blocks.specs.Searching.{keyOf}
+use Rattle.blocks.specs.Inner.{keyOf}
 use Rattle.blocks.proofs.Keys.{Within, place-within, key-nothing, key-place}
 use Rattle.blocks.proofs.Searches.{part-arena}
 use Rattle.blocks.proofs.find_place.Statement.{statement}

@@ -1,4 +1,4 @@
--- `order_of` meets its contract. The invariant: what is still to be tried gives what the whole search gives.
+-- The invariant: what is still to be tried gives what the whole search gives.
 use Prim.Native.Nat.{_-_, _^_, _≤_}
 use mathlib.Core.Path.{_≡_, refl, sym, _∙_}
 use native.Mathlib.Nat.{two-pow-succ}

@@ -1,4 +1,4 @@
--- `passes` meets its contract.
+-- The check of the wrapped sum is `same_block`'s; that it is the exact sum's, for addresses in the lower half, is `check-exact`.
 use Prim.Native.Nat.{ℕ}
 use mathlib.Core.Path.{_∙_, ap}
 use borrow.Author.Needs.{needs}

@@ -1,4 +1,4 @@
--- `same_block` meets its contract.
+-- The xor and the shift are the definition; that they test membership in the aligned block is `check-holds`.
 use mathlib.Core.Path.{refl}
 use borrow.Author.Needs.{needs}
 use Rattle.blocks.specs.Pointers.{checkBits}

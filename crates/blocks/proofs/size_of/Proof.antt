@@ -1,4 +1,4 @@
--- `size_of` meets its contract.
+-- 1 shifted by at most 16 stays below 2 ^ 32.
 use Prim.Native.Nat.{_^_, _≤_}
 use native.Mathlib.Nat.{mod-eq-of-lt, one-mul}
 use native.Mathlib.Omega.{arith}

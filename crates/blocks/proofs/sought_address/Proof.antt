@@ -1,4 +1,4 @@
--- `sought_address` meets its contract.
+-- Each arm is given whether p is marked and which half of its slot it lies in, so `sought` computes; sums and differences stay in 32 bits.
 use Prim.Native.Nat.{ℕ, _+_, _-_, _%_, _^_, _≤_, _<_}
 use mathlib.Core.Bool.{true}
 use mathlib.Core.Path.{_≡_, sym, _∙_, ap, ap₂}
@@ -7,7 +7,7 @@ use borrow.Author.Needs.{needs}
 use borrow.Author.Tests.{not-true, not-false}
 use lib.Pow.{pow-pos, pow-mono}
 use Rattle.blocks.specs.Pointers.{markBit, marked, address}
-use Rattle.blocks.specs.Seeking.{fromZero}
+use Rattle.blocks.specs.Inner.{fromZero}
 use Rattle.blocks.proofs.Referents.{sought-plain, sought-up, sought-down, sought-negative}
 use Rattle.blocks.proofs.sought_address.Statement.{statement}
 use Rattle.blocks.proofs.sought_address.Tie as tie

@@ -1,4 +1,4 @@
--- `lent_by` meets its contract.
+-- The lengths are a power of 2 of at most 16, and its slots, or at most the two buffers'.
 use Prim.Native.Nat.{_%_, _^_, _≤_}
 use native.Mathlib.Omega.{arith}
 use lib.Pow.{pow-mono}

@@ -1,4 +1,4 @@
--- `number` is safe and ends.
+-- It is safe and ends: each turn moves on in the text.
 use Prim.Native.Nat.{_-_}
 use lib.ListN.{length}
 use borrow.Author.Needs.{needs}

@@ -1,4 +1,4 @@
--- `past` meets its contract: what is passed holds no `stop`, so the place only moves on.
+-- What is passed holds no `stop`, so the place only moves on.
 use Prim.Native.Nat.{_≤_, _-_}
 use lib.ListN.{length}
 use borrow.Author.Needs.{needs}

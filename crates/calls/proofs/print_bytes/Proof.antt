@@ -1,4 +1,4 @@
--- `print_bytes` is safe and ends.
+-- It is safe and ends: each turn moves on in the bytes.
 use Prim.Native.Nat.{_-_}
 use lib.ListN.{length}
 use borrow.Author.Needs.{needs}

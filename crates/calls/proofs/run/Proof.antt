@@ -1,4 +1,4 @@
--- `run` is safe and ends: each line moves the place on.
+-- It is safe and ends: each line moves the place on, and at most the whole of the two buffers is lent.
 use Prim.Native.Nat.{_≤_, _<_, _-_}
 use mathlib.Core.Path.{_≡_, sym}
 use native.Mathlib.Omega.{arith}
@@ -10,7 +10,8 @@ use Rattle.calls.proofs.run.Statement.{statement}
 use Rattle.calls.proofs.run.Tie as tie
 
 abbrev Inv-loop : tie.InvT-loop
-Inv-loop text arena₀ table₀ lent₀ at₀ arena table lent at = (at ≤ length text) × Lendable (lent .arena) (lent .table) × (length arena ≡ length arena₀) × (length table ≡ length table₀)
+Inv-loop text arena₀ table₀ lent₀ at₀ arena table lent at =
+    (at ≤ length text) × Lendable (lent .arena) (lent .table) × (length arena ≡ length arena₀) × (length table ≡ length table₀)
 
 abbrev μ-loop : tie.MeasureT-loop
 μ-loop text arena₀ table₀ lent₀ at₀ arena table lent at = length text - at
@@ -27,25 +28,38 @@ line-at-requires c κs = search needs
 lent-by-requires : tie.Need-lent-by-requires Inv-loop μ-loop
 lent-by-requires c κs = search needs
 
+-- what a line lends is no more than there is
+module _ (c : tie.After-lent-by Inv-loop μ-loop) where
+  abbrev turn : tie.In-loop Inv-loop μ-loop
+  turn = c .before .before
+
+  abbrev head : tie.At-loop Inv-loop μ-loop
+  head = turn .before
+
+  abbrev start : tie.Start Inv-loop μ-loop
+  start = head .before .before .before .before
+
+  arena-long : c .lent-by .result .arena ≤ length (head .loop .arena)
+  arena-long = omega (arith, c .lent-by .ensures .bytes, head .loop .inv .2, start .pre .0)
+
+  table-long : c .lent-by .result .table ≤ length (head .loop .table)
+  table-long = omega (arith, c .lent-by .ensures .slots, head .loop .inv .3, start .pre .1)
+
 slice-relend-prefix-carry-out : tie.Need-slice-relend-prefix-carry-out Inv-loop μ-loop
 slice-relend-prefix-carry-out c = search needs
 
 slice-aggregate-carry-out : tie.Need-slice-aggregate-carry-out Inv-loop μ-loop
 slice-aggregate-carry-out c =
-    let l = c .before .before .before .before in
-    sym
-    (length-take-le (c .before .lent-by .result .arena) (l .loop .arena)
-    (omega (arith, c .before .lent-by .ensures .bytes, l .loop .inv .2, l .before .before .before .before .pre .0)))
+    let l = c .before in
+    sym (length-take-le (l .lent-by .result .arena) (head l .loop .arena) (arena-long l))
 
 slice-relend-prefix-carry-out-2 : tie.Need-slice-relend-prefix-carry-out-2 Inv-loop μ-loop
 slice-relend-prefix-carry-out-2 c = search needs
 
 slice-aggregate-carry-out-2 : tie.Need-slice-aggregate-carry-out-2 Inv-loop μ-loop
 slice-aggregate-carry-out-2 c =
-    let l = c .before .before .before .before .before in
-    sym
-    (length-take-le (c .before .before .lent-by .result .table) (l .loop .table)
-    (omega (arith, c .before .before .lent-by .ensures .slots, l .loop .inv .3, l .before .before .before .before .pre .1)))
+    let l = c .before .before in
+    sym (length-take-le (l .lent-by .result .table) (head l .loop .table) (table-long l))
 
 carry-out-requires : tie.Need-carry-out-requires Inv-loop μ-loop
 carry-out-requires c κs = search needs
@@ -55,9 +69,10 @@ past-requires c κs = search needs
 
 loop-less : tie.Need-loop-less Inv-loop μ-loop
 loop-less c =
-    let l = c .before .before .before .before .before .before .before .before .before .before .before in
-    let h : l .loop .at < length (c .before .before .before .before .before .before .before .before .before .before .before .before .before .before .before .args .text .now) = omega (arith, c .before .before .before .before .before .before .before .before .before .before .loop-test .taken) in
-    omega (arith, c .past .ensures .beyond h, c .past .ensures .inside)
+    let done : tie.After-carry-out Inv-loop μ-loop = c .before .before .before .before .before in
+    let l : tie.After-lent-by Inv-loop μ-loop = done .before .before .before in
+    let more : head l .loop .at < length (start l .args .text .now) = omega (arith, turn l .loop-test .taken) in
+    omega (arith, c .past .ensures .beyond more, c .past .ensures .inside)
 
 loop-again : tie.Need-loop-again Inv-loop μ-loop
 loop-again c = search needs

@@ -1,4 +1,5 @@
--- The buffers are as long as they are said to be, so they fit every file.
+-- The parts of the buffers that are lent have the lengths of the file's arena and table, so they fit every accepted file (`sized`). An accepted run had room
+-- for its answers (`ran-room`), which are then printed.
 use Prim.Native.Nat.{ℕ, _*_, _/_, _^_, _≤_}
 use mathlib.Core.Path.{_≡_, sym, _∙_, ap}
 use native.Mathlib.Omega.{arith}
@@ -16,7 +17,7 @@ use Rattle.heap.specs.Answers.{answerLength}
 use Rattle.heap.proofs.Judging.{sizes-right}
 use Rattle.takes.specs.Files.{sizeByte, fileNumber}
 use Rattle.runner.proofs.Files.{accepted-file}
-use Rattle.runner.proofs.Judging.{ran-room}
+use Rattle.runner.proofs.RunRefusals.{ran-room}
 use Rattle.printing.proofs.play.Statement.{statement}
 use Rattle.printing.proofs.play.Tie as tie
 
@@ -43,6 +44,9 @@ module _ (c : tie.After-size-for) where
   abbrev size : ℕ
   size = c .size-for .result
 
+  abbrev start : tie.Start
+  start = c .before .before .before .before
+
   abbrev arena : List ℕ
   arena = take size (c .before .before .large-buffer .result)
 
@@ -56,6 +60,10 @@ module _ (c : tie.After-size-for) where
   table-length : length table ≡ size / 2 ^ slotOrder
   table-length =
       length-take-le (size / 2 ^ slotOrder) (c .before .buffer .result) (omega (arith, c .size-for .ensures .0, c .before .buffer .ensures))
+
+  -- the table has a slot for each 2 ^ slotOrder bytes of the arena
+  slots : length table ≡ length arena / 2 ^ slotOrder
+  slots = table-length ∙ ap (λ (n : ℕ). n / 2 ^ slotOrder) (sym arena-length)
 
 slice-aggregate-run-in : tie.Need-slice-aggregate-run-in
 slice-aggregate-run-in c = sym (arena-length (c .before))
@@ -87,9 +95,9 @@ sized file a tab z p q =
 run-in-requires : tie.Need-run-in-requires
 run-in-requires c κs =
     let s = c .before .before .before in
-    let file = s .before .before .before .before .args .file .now in
+    let file = start s .args .file .now in
     record {
-      sizes = λ e. sized file (arena s) (table s) e (arena-length s ∙ s .size-for .ensures .1 e) (table-length s ∙ ap (λ (n : ℕ). n / 2 ^ slotOrder) (sym (arena-length s)));
+      sizes = λ e. sized file (arena s) (table s) e (arena-length s ∙ s .size-for .ensures .1 e) (slots s);
       answers = omega arith;
     }
 
@@ -116,13 +124,16 @@ slice-aggregate-print-answers c = search needs
 
 -- the run was accepted, and its answers are lent again
 module _ (c : tie.After-answers3) where
+  abbrev accepted : tie.Else1
+  accepted = c .before .before .before
+
   abbrev run : tie.After-run-in
-  run = c .before .before .before .before .before .before .before
+  run = accepted .before .before .before .before
 
   answered : answerLength * run .run-in .result .count ≤ length (run .run-in .last .1 .1 .1 .0)
   answered =
       let r = run .run-in in
-      omega (arith, ran-room _ _ _ (r .result) _ _ _ (r .ensures .0) (c .before .before .before .if1 .left), r .kept .1 .1 .1 .0)
+      omega (arith, ran-room _ _ _ (r .result) _ _ _ (r .ensures .0) (accepted .if1 .left), r .kept .1 .1 .1 .0)
 
 print-answers-requires : tie.Need-print-answers-requires
 print-answers-requires c κs = answered c

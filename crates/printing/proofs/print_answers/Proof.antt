@@ -1,4 +1,4 @@
--- The answer of record i is at the place 5 * i.
+-- The invariant: record i's answer is at the place 5 * i, so each of `count` answers lies in the slice.
 use Prim.Native.Nat.{_*_, _-_, _≤_}
 use mathlib.Core.Path.{_≡_}
 use native.Mathlib.Omega.{arith}

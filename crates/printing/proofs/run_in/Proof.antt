@@ -1,6 +1,6 @@
 -- What `runner::run` promises; on memory that fits, its number is the file's.
 use borrow.Author.Needs.{needs}
-use Rattle.runner.proofs.Judging.{ran-number}
+use Rattle.runner.proofs.RunRefusals.{ran-number}
 use Rattle.printing.proofs.run_in.Statement.{statement}
 use Rattle.printing.proofs.run_in.Tie as tie
 
@@ -21,8 +21,11 @@ module _ (c : tie.After-slice-known6) where
   abbrev done : tie.After-run
   done = c .before .before .before .before .before .before
 
+  abbrev lent : tie.After-slice-known3
+  lent = done .before .before .before .before
+
   abbrev start : tie.Start
-  start = done .before .before .before .before .before .before .before .before
+  start = lent .before .before .before .before
 
 returns : tie.Need-returns
 returns c =

@@ -12,10 +12,10 @@ use Rattle.heap.specs.Answers.{answerLength}
 use Rattle.heap.specs.declared.Answer.{Answer}
 use Rattle.heap.specs.Registers.{registerCount, held}
 use Rattle.runner.specs.Decoding.{decoded, callOf, registersAfter}
-use Rattle.runner.specs.Carrying.{stateOf, oneRecord, operandsOf, storedIn}
+use Rattle.runner.specs.Inner.{stateOf, oneRecord, operandsOf, storedIn}
 use Rattle.runner.specs.declared.decoding.Operands.{Operands}
 use Rattle.runner.proofs.Records.{stored-in, one-record}
-use Rattle.runner.proofs.Running.{run-sized, Going, going-start, going-good, going-low, going-room, going-further, going-step, going-end}
+use Rattle.runner.proofs.Running.{run-sized, Going, going-start, going-good, Ready, going-ready, going-step, going-end}
 use Rattle.runner.proofs.carry_out.Statement.{statement}
 use Rattle.runner.proofs.carry_out.Tie as tie
 
@@ -73,16 +73,8 @@ module _ (c : tie.After-next Inv-loop μ-loop) where
   abbrev head : tie.At-loop Inv-loop μ-loop
   head = turn .before
 
-  further : head .loop .at < c .next .result
-  further = going-further (head .loop .inv) (turn .loop-test .taken) (c .before .read .result) (c .next .result) (c .before .read .ensures) (c .next .ensures)
-
-  low : (operandsOf (c .before .read .result) .a < registerCount) × (operandsOf (c .before .read .result) .b < registerCount)
-  low = going-low (head .loop .inv) (turn .loop-test .taken) (c .before .read .result) (c .next .result) (c .before .read .ensures) (c .next .ensures)
-
-  room : head .loop .place + answerLength ≤ length (head .loop .answers)
-  room =
-      omega
-      (arith, going-room (head .loop .inv) (turn .loop-test .taken) (c .before .read .result) (c .next .result) (c .before .read .ensures) (c .next .ensures))
+  ready : Ready (head .loop .answers) (head .loop .at) (head .loop .place) (c .before .read .result) (c .next .result)
+  ready = going-ready (head .loop .inv) (turn .loop-test .taken) (c .before .read .result) (c .next .result) (c .before .read .ensures) (c .next .ensures)
 
 operands-of-requires : tie.Need-operands-of-requires Inv-loop μ-loop
 operands-of-requires c κs = search needs
@@ -90,10 +82,10 @@ operands-of-requires c κs = search needs
 -- its registers a and b are among the sixteen
 module _ (c : tie.After-operands-of Inv-loop μ-loop) where
   a-low : c .operands-of .result .a < registerCount
-  a-low = rw (c .operands-of .ensures) (low (c .before) .0)
+  a-low = rw (c .operands-of .ensures) (ready (c .before) .a-low)
 
   b-low : c .operands-of .result .b < registerCount
-  b-low = rw (c .operands-of .ensures) (low (c .before) .1)
+  b-low = rw (c .operands-of .ensures) (ready (c .before) .b-low)
 
 cast-p : tie.Need-cast-p Inv-loop μ-loop
 cast-p c = search needs
@@ -118,8 +110,11 @@ call-with-requires c κs = search needs
 
 -- a record's call, with the values in its registers
 module _ (c : tie.After-call-with Inv-loop μ-loop) where
+  abbrev held-both : tie.After-q Inv-loop μ-loop
+  held-both = c .before .before .before .before
+
   abbrev named : tie.After-operands-of Inv-loop μ-loop
-  named = c .before .before .before .before .before .before .before .before
+  named = held-both .before .before .before .before
 
   abbrev next : tie.After-next Inv-loop μ-loop
   next = named .before
@@ -136,7 +131,7 @@ module _ (c : tie.After-call-with Inv-loop μ-loop) where
       ∙ ap (λ (r : Operands). decoded item .call (held (rs loop) (r .a)) (held (rs loop) (r .b))) (named .operands-of .ensures)
 
 carry-out-one-requires : tie.Need-carry-out-one-requires Inv-loop μ-loop
-carry-out-one-requires c κs = (loop c .loop .inv .sound, room (next c))
+carry-out-one-requires c κs = (loop c .loop .inv .sound, ready (next c) .room)
 
 -- past the call: the state that it leaves once the value is in its register
 module _ (c : tie.After-carry-out-one Inv-loop μ-loop) where
@@ -187,7 +182,7 @@ module _ (c : tie.After-stored-in Inv-loop μ-loop) where
 add-place : tie.Need-add-place Inv-loop μ-loop
 add-place c =
     let n = next (called (c .before .before .before .before .before .before)) in
-    omega (arith, room n, head n .loop .inv .same, start (head n) .good .1 .1 .1 .0 .0)
+    omega (arith, ready n .room, head n .loop .inv .same, start (head n) .good .1 .1 .1 .0 .0)
 
 stored-in-requires : tie.Need-stored-in-requires Inv-loop μ-loop
 stored-in-requires c κs = search needs
@@ -199,13 +194,13 @@ element-write-registers : tie.Need-element-write-registers Inv-loop μ-loop
 element-write-registers c = c .if1 .taken
 
 loop-less : tie.Need-loop-less Inv-loop μ-loop
-loop-less c = let n = next (called (made (c .before))) in omega (arith, turn n .loop-test .taken, further n)
+loop-less c = let n = next (called (made (c .before))) in omega (arith, turn n .loop-test .taken, ready n .further)
 
 loop-again : tie.Need-loop-again Inv-loop μ-loop
 loop-again c = let t = c .before in on (made t) (t .stored-in .result) (t .stored-in .ensures) _ refl
 
 loop-less-2 : tie.Need-loop-less-2 Inv-loop μ-loop
-loop-less-2 c = let n = next (called (made (c .before))) in omega (arith, turn n .loop-test .taken, further n)
+loop-less-2 c = let n = next (called (made (c .before))) in omega (arith, turn n .loop-test .taken, ready n .further)
 
 loop-again-2 : tie.Need-loop-again-2 Inv-loop μ-loop
 loop-again-2 c =

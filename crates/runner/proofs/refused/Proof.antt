@@ -1,3 +1,4 @@
+-- The registers are those at the start.
 use borrow.Author.Needs.{needs}
 use Rattle.runner.proofs.refused.Statement.{statement}
 use Rattle.runner.proofs.refused.Tie as tie

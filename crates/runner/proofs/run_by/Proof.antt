@@ -12,10 +12,10 @@ use Rattle.heap.specs.Views.{slotOrder}
 use Rattle.heap.specs.Heaps.{heapOf, wrongSizes}
 use Rattle.heap.proofs.Lengths.{order-other, order-this}
 use Rattle.runner.specs.Runs.{crowded}
-use Rattle.runner.specs.Carrying.{Runnable}
+use Rattle.runner.specs.Inner.{Runnable}
 use Rattle.runner.proofs.Files.{accepted-file, few-records}
-use Rattle.runner.proofs.Judging.{judge-refused, Judged, judge-accepted, screen-full, screen-room, no-screen}
-use Rattle.runner.proofs.Judging.{by-file, by-screen, by-sizes, by-room, run-done}
+use Rattle.runner.proofs.RunRefusals.{judge-refused, Judged, judge-accepted, screen-full, screen-room, no-screen}
+use Rattle.runner.proofs.RunRefusals.{by-file, by-screen, by-sizes, by-room, run-done}
 use Rattle.runner.proofs.run_by.Statement.{statement}
 use Rattle.runner.proofs.run_by.Tie as tie
 

@@ -1,10 +1,10 @@
--- `alike` meets its contract. The loop's invariant: `same` says it of the slots of the row from i on.
+-- The loop's invariant: `same` says whether each slot of the row from i on has the entry x.
 use mathlib.Core.Path.{_≡_, sym, _∙_}
 use Prim.Native.Nat.{_≤_, _+_, _-_}
 use native.Mathlib.Nat.{zero-add}
 use native.Mathlib.Omega.{arith}
 use borrow.Author.Tests.{eq-eqb, ne-eqb}
-use Rattle.blocks.specs.Searching.{hasEntry}
+use Rattle.blocks.specs.Inner.{hasEntry}
 use Rattle.blocks.specs.Placing.{allFree}
 use Rattle.blocks.proofs.Runs.{all-none, all-whole, all-before}
 use Rattle.blocks.proofs.scan.alike.Statement.{statement}

@@ -1,4 +1,4 @@
--- `by_rows` meets its contract. Both loops are left by `break 'scan` at the first damage.
+-- Both loops are left by `break 'scan` at the first damage.
 -- The outer loop's invariant: every slot passed is good, and rows were passed. The inner loop's: every slot of the range that was passed has the entry e,
 -- and rows were passed. The measures are what is left of the table and of the range. A row whose first block lies in it is damaged as a table
 -- of its own where the whole table is (`row-good`, `row-undamaged`).
@@ -18,7 +18,7 @@ use lib.Pow.{pow-pos}
 use Rattle.blocks.specs.Blocks.{floor}
 use Rattle.blocks.specs.Placing.{allFree}
 use Rattle.blocks.specs.Tables.{damagedBy}
-use Rattle.blocks.specs.Searching.{hasEntry}
+use Rattle.blocks.specs.Inner.{hasEntry}
 use Rattle.blocks.proofs.Floors.{floor-le, lt-floor, floor-end}
 use Rattle.blocks.proofs.Tables.{Good, Whole, damaged-at, undamaged, order-bad, whole-good}
 use Rattle.blocks.proofs.Runs.{part-length, part-entry, run-of-part}

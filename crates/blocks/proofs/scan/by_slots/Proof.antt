@@ -1,4 +1,4 @@
--- `by_slots` meets its contract. Both loops are left by `break 'scan` at the first damage.
+-- Both loops are left by `break 'scan` at the first damage.
 -- The outer loop's invariant: every slot passed is good. The inner loop's: every slot of the range that was passed has the entry e, and pairs were passed.
 -- The measures are what is left of the table and of the range.
 use mathlib.Core.Bool.{true, false, _&&_}

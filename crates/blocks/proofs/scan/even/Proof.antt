@@ -1,4 +1,4 @@
--- `even` meets its contract.
+-- The two tests one after the other: the entry may be that of a row, and the row is alike.
 use mathlib.Core.Path.{sym, _∙_}
 use native.Mathlib.Omega.{arith}
 use borrow.Author.Needs.{needs}

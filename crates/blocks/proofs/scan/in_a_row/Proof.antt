@@ -1,4 +1,4 @@
--- `in_a_row` meets its contract.
+-- A free slot at once; else the order is tested against t and t + 4.
 use Prim.Native.Nat.{ℕ, _+_}
 use mathlib.Core.Bool.{_&&_}
 use mathlib.Core.Path.{ap, _∙_}

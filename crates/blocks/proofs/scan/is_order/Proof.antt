@@ -1,4 +1,4 @@
--- `is_order` meets its contract.
+-- Each arm is given one of the two comparisons, and the other is the result.
 use borrow.Author.Tests.{le-leb, lt-leb}
 use Rattle.blocks.proofs.scan.is_order.Statement.{statement}
 use Rattle.blocks.proofs.scan.is_order.Tie as tie

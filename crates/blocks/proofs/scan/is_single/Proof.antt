@@ -1,7 +1,7 @@
--- `is_single` meets its contract.
+-- A free slot at once; else the order is compared with t.
 use borrow.Author.Needs.{needs}
 use borrow.Author.Tests.{eq-eqb, ne-eqb}
-use Rattle.blocks.specs.Searching.{single}
+use Rattle.blocks.specs.Inner.{single}
 use Rattle.blocks.proofs.scan.is_single.Statement.{statement}
 use Rattle.blocks.proofs.scan.is_single.Tie as tie
 

@@ -1,10 +1,10 @@
--- `row_damaged` meets its contract.
+-- An even row is undamaged (`even-undamaged`); any other is scanned as the table of an arena of its own.
 use mathlib.Core.Path.{sym, _∙_}
 use native.Mathlib.Omega.{arith}
 use borrow.Author.Needs.{needs}
 use denote.Ref.{now}
 use lib.ListN.{getD}
-use Rattle.blocks.specs.Searching.{inRow}
+use Rattle.blocks.specs.Inner.{inRow}
 use Rattle.common.proofs.Booleans.{and-left, and-right}
 use Rattle.blocks.proofs.Rows.{row-slots, even-undamaged}
 use Rattle.blocks.proofs.scan.row_damaged.Statement.{statement}

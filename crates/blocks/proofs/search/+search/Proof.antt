@@ -15,7 +15,7 @@ use borrow.Fn.Kinds.{In}
 use borrow.Fn.PlainCycle.{Measures, is, falls, and}
 use Rattle.blocks.specs.Tables.{freeIn}
 use Rattle.blocks.specs.Placing.{allFree, placeIn}
-use Rattle.blocks.specs.Searching.{asFree, PartOf, keyOf}
+use Rattle.blocks.specs.Inner.{asFree, PartOf, keyOf}
 use Rattle.common.proofs.Booleans.{and-right}
 use Rattle.blocks.proofs.Rows.{whole-rows}
 use Rattle.blocks.proofs.Searches.{none-free, all-open, at-order, Halved, two-halves, first-half, left-half, right-half}

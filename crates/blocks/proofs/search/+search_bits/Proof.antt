@@ -10,7 +10,7 @@ use lib.Pow.{pow-pos, pow-mono}
 use borrow.Fn.Kinds.{In}
 use borrow.Fn.PlainCycle.{Measures, is, falls, and}
 use Rattle.blocks.specs.Placing.{allFree, placeIn}
-use Rattle.blocks.specs.Searching.{bitsOf, decidedBy, keyOf}
+use Rattle.blocks.specs.Inner.{bitsOf, decidedBy, keyOf}
 use Rattle.blocks.proofs.Bits.{bits-left, bits-right}
 use Rattle.blocks.proofs.Searches.{Decided, decided, Halved, two-halves, first-half, left-half, right-half}
 use Rattle.blocks.proofs.search.search_bits.Reads as search-bits

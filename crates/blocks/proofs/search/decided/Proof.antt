@@ -1,4 +1,4 @@
--- `decided` meets its contract.
+-- Each return is one arm of `decidedBy`. All ones is 2 ^ slots - 1, of at most sixteen slots.
 use Prim.Native.Nat.{ℕ, _-_, _^_, _≤_}
 use mathlib.Core.Bool.{false}
 use mathlib.Core.Path.{_≡_, sym, ap, _∙_}

@@ -1,4 +1,4 @@
--- `free_bits` meets its contract. The loop's invariant: `bits` are those of the slots from i on.
+-- The loop's invariant: `bits` are those of the slots from i on, at most 2 ^ 16 of them.
 use mathlib.Core.Path.{_≡_, sym, _∙_}
 use Prim.Native.Nat.{ℕ, _≤_, _<_, _+_, _-_, _*_, _^_}
 use mathlib.Core.Bool.{cond}
@@ -10,7 +10,7 @@ use lib.Dec.{eqb}
 use lib.ListN.{length, getD}
 use lib.Pow.{pow-mono}
 use Rattle.blocks.specs.Tables.{freeIn}
-use Rattle.blocks.specs.Searching.{bitsOf}
+use Rattle.blocks.specs.Inner.{bitsOf}
 use Rattle.blocks.proofs.Bits.{bits-before, bits-below}
 use Rattle.blocks.proofs.search.free_bits.Statement.{statement}
 use Rattle.blocks.proofs.search.free_bits.Tie as tie

@@ -1,4 +1,4 @@
--- `is_exact` meets its contract.
+-- The key of the next order's first slot is above all keys of this order.
 use Prim.Native.Nat.{ℕ}
 use mathlib.Core.Path.{ap}
 use native.Mathlib.Omega.{arith}

@@ -1,4 +1,4 @@
--- `place_key` meets its contract.
+-- A small arena is one row, a larger one is searched by halves; both are called with the whole table.
 use Prim.Native.Nat.{_-_, _^_, _≤_}
 use native.Mathlib.Omega.{arith}
 use borrow.Author.Needs.{needs}

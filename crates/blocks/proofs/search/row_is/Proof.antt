@@ -1,11 +1,11 @@
--- `row_is` meets its contract. The loop's invariant: `same` says it of the slots of the row from i on.
+-- The loop's invariant: `same` says whether each slot of the row from i on is free, or each is taken.
 use mathlib.Core.Bool.{Bool, true, false, not, cond, Bool·beq, true≢false, false≢true}
 use mathlib.Core.Path.{_≡_, refl, sym, _∙_}
 use Prim.Native.Nat.{_≤_, _+_, _-_}
 use native.Mathlib.Nat.{zero-add}
 use native.Mathlib.Omega.{arith}
 use Rattle.blocks.specs.Tables.{freeIn}
-use Rattle.blocks.specs.Searching.{asFree}
+use Rattle.blocks.specs.Inner.{asFree}
 use Rattle.blocks.specs.Placing.{allFree}
 use Rattle.blocks.proofs.Runs.{all-none, all-whole, all-before}
 use Rattle.blocks.proofs.search.row_is.Statement.{statement}

@@ -1,4 +1,4 @@
--- `search_row` meets its contract: the free slots of the part are those of the table, so what is said of their bits is said of the table.
+-- The free slots of the part are those of the table, so what is said of their bits is said of the table.
 use Prim.Native.Nat.{ℕ, _-_, _^_, _≤_}
 use mathlib.Core.List.{List}
 use mathlib.Core.Path.{_≡_, ap, _∙_}
@@ -9,7 +9,7 @@ use denote.Ref.{now}
 use lib.ListN.{length}
 use lib.Pow.{pow-mono}
 use Rattle.blocks.specs.Tables.{freeIn}
-use Rattle.blocks.specs.Searching.{bitsOf, PartOf}
+use Rattle.blocks.specs.Inner.{bitsOf, PartOf}
 use Rattle.blocks.proofs.Bits.{bits-same}
 use Rattle.blocks.proofs.Searches.{Decided, decided, part-free}
 use Rattle.blocks.proofs.search.search_row.Statement.{statement}

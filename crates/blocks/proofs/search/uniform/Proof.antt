@@ -1,4 +1,4 @@
--- `uniform` meets its contract. The loop's invariant: what is asked of the part is asked of the rows that are left.
+-- The loop's invariant: the part is all free, or all taken, where the rows that are left are. `row_is` tells of one row.
 use mathlib.Core.Bool.{Bool, true, cond, not}
 use mathlib.Core.List.{List}
 use mathlib.Core.Path.{_≡_, sym, _∙_}
@@ -10,7 +10,7 @@ use borrow.Author.Tests.{not-true, not-false, le-leb, lt-leb}
 use denote.Ref.{now}
 use lib.Dec.{eqb, leb}
 use lib.ListN.{length}
-use Rattle.blocks.specs.Searching.{asFree}
+use Rattle.blocks.specs.Inner.{asFree}
 use Rattle.blocks.specs.Placing.{allFree}
 use Rattle.blocks.proofs.Runs.{all-none, row-stop, row-step, part-length, run-of-part}
 use Rattle.blocks.proofs.search.uniform.Statement.{statement}

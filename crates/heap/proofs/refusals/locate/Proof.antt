@@ -12,8 +12,8 @@ use Rattle.heap.proofs.refusals.locate.Tie as tie
 abbrev seen : tie.Start → View
 seen e = heapView (e .args .t) (e .args .m) (heapOf [] (e .args .table .now))
 
-referent-of-requires : tie.Need-referent-of-requires
-referent-of-requires c κs = search needs
+pointer-referent-requires : tie.Need-pointer-referent-requires
+pointer-referent-requires c κs = search needs
 
 enum-told : tie.Need-enum-told
 enum-told c = search needs
@@ -24,13 +24,13 @@ enum-known-s c = search needs
 returns : tie.Need-returns
 returns c =
     let e = c .before .before .before .before in
-    located-missing (seen e) (e .args .p) (sym (c .before .before .referent-of .ensures) ∙ c .enum-told .given .1)
+    located-missing (seen e) (e .args .p) (sym (c .before .before .pointer-referent .ensures) ∙ c .enum-told .given .1)
 
 returns-2 : tie.Need-returns-2
 returns-2 c =
     let k = c .before in
     let e = k .before .before .before .before in
-    located-found (seen e) (e .args .p) (sym (k .before .before .referent-of .ensures) ∙ k .s .given .1)
+    located-found (seen e) (e .args .p) (sym (k .before .before .pointer-referent .ensures) ∙ k .s .given .1)
 
 pub locate-spec : {M : Type 1} → statement M
-locate-spec = tie.close (tie.spec referent-of-requires enum-told enum-known-s returns returns-2)
+locate-spec = tie.close (tie.spec pointer-referent-requires enum-told enum-known-s returns returns-2)

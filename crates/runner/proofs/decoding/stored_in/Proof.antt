@@ -1,4 +1,4 @@
--- A refused record stores nowhere.
+-- A record with a number other than 0 was refused and stores nowhere; else the value goes to d.
 use borrow.Author.Tests.{ne-eqb}
 use borrow.Author.Needs.{needs}
 use Rattle.runner.proofs.decoding.stored_in.Statement.{statement}

@@ -1,5 +1,6 @@
--- What the parts of a run's code say to each other: the state of a run, one record carried out on it, and many; the registers that a record names.
-use Prim.Native.Nat.{ℕ, _-_, _*_, _/_, _≤_}
+-- Nothing of document 01: what contracts of inner functions say, of the state of a run, one record carried out on it, and many, and of the registers that
+-- a record names. Those of `run` and `run_panel` cite `runOf` and `panelOf`.
+use Prim.Native.Nat.{ℕ, _*_, _≤_}
 use mathlib.Core.Path.{_≡_}
 use mathlib.Core.Bool.{false, cond}
 use mathlib.Core.List.{List}
@@ -7,7 +8,7 @@ use mathlib.Core.Option.{Option, none, some}
 use lib.Dec.{eqb}
 use lib.ListN.{length}
 use Rattle.common.specs.Bytes.{over}
-use Rattle.takes.specs.Files.{headLength, longest, sizeByte, fileNumber, recordsOf}
+use Rattle.takes.specs.Files.{sizeByte, fileNumber, recordsOf}
 use Rattle.takes.specs.declared.Record.{Record}
 use Rattle.heap.specs.Views.{slotOrder}
 use Rattle.heap.specs.Heaps.{Heap, heapOf, wrongSizes, heapCall, freshHeap}
@@ -15,8 +16,7 @@ use Rattle.heap.specs.Answers.{answerLength, answerBytes, answersBytes}
 use Rattle.heap.specs.declared.Answer.{Answer}
 use Rattle.heap.specs.Registers.{registerCount, registersAtFirst}
 use Rattle.runner.specs.Decoding.{decoded, callOf, registersAfter}
-use Rattle.runner.specs.Runs.{carryOut, RunOutcome}
-use Rattle.runner.specs.declared.Ran.{Ran}
+use Rattle.runner.specs.Runs.{carryOut}
 use Rattle.runner.specs.declared.decoding.Operands.{Operands}
 
 -- a heap, the registers and the answer slice
@@ -50,14 +50,6 @@ pub record Runnable (m : ℕ) (file a tab out : List ℕ) : Type 0 where
   pub same : sizeByte file ≡ m
   pub fits : wrongSizes slotOrder m (heapOf a tab) ≡ false
   pub room : answerLength * length (recordsOf file) ≤ length out
-
--- no file has more records: each takes two bytes or more, its length byte and its operation
-abbrev pub mostRecords : ℕ
-mostRecords = (longest - headLength) / 2
-
--- what a run returned and the buffers that it left, as its outcome
-abbrev pub ranTo : Ran → List ℕ → List ℕ → List ℕ → RunOutcome
-ranTo r a tab out = record { number = r .number; registers = r .registers .values; count = r .count; heap = heapOf a tab; answers = out }
 
 -- the index that stands for no register: the first past them
 abbrev pub noRegister : ℕ

@@ -1,15 +1,23 @@
--- What the damage scan and the search by halves test and answer on their way. Inner contracts cite these; `damaged` and `find_place` cite `damagedBy` and
--- `placeIn`. Where `allFree` is given another test than that of free slots, it says that all of the slots pass it.
+-- Nothing of document 01: what contracts of inner functions say, of the address that is sought, of the damage scan and of the search by halves. Those of
+-- `pointer_referent`, `damaged` and `find_place` cite `pointerReferent`, `damagedBy` and `placeIn` instead. Where `allFree` is given another test than
+-- that of free slots, it says that all of the slots pass it.
 use Prim.Native.Nat.{ℕ, zero, suc, _+_, _-_, _*_, _^_, _≤_, _<_}
 use mathlib.Core.Bool.{Bool, false, cond, not, _&&_, _||_}
 use mathlib.Core.List.{List}
 use mathlib.Core.Path.{_≡_}
 use lib.Dec.{eqb, leb}
+use lib.IntN.{ℤ, pos, negsuc}
 use lib.ListN.{length, getD}
 use Rattle.blocks.specs.Tables.{damagedBy, freeIn}
 use Rattle.blocks.specs.Placing.{allFree, placeIn}
 use Rattle.blocks.specs.declared.Place.{Place}
 use Rattle.blocks.specs.declared.Place.the-variants.{At, Nothing}
+
+-- ---- the address that is sought
+-- How the code holds an exact address that may be negative: as 0 where it is, which lies below the arena like it.
+abbrev pub fromZero : ℤ → ℕ
+fromZero (pos q) = q
+fromZero (negsuc n) = 0
 
 -- ---- the scan
 -- slot i has the entry x

@@ -1,4 +1,5 @@
--- `referent_at` meets its contract.
+-- One law for each way: below the arena, past the table, a free slot, and a taken one, whose entry rounds the address down to its block. In an undamaged
+-- table the entry is an order of the arena, so that the block's start fits in 32 bits.
 use Prim.Native.Nat.{ℕ, _+_, _-_, _*_, _/_}
 use mathlib.Core.Path.{_≡_, sym, _∙_, ap}
 use native.Mathlib.Nat.{div-mul-le-self}
@@ -10,8 +11,8 @@ use Rattle.blocks.specs.Tables.{blockRound, referentIn}
 use Rattle.blocks.specs.declared.Referent.the-variants.{Found}
 use Rattle.blocks.proofs.Referents.{referent-below, referent-past, referent-entry, round-some}
 use Rattle.blocks.proofs.Tables.{undamaged-whole}
-use Rattle.blocks.proofs.referent_at.Statement.{statement}
-use Rattle.blocks.proofs.referent_at.Tie as tie
+use Rattle.blocks.proofs.referent_in.Statement.{statement}
+use Rattle.blocks.proofs.referent_in.Tie as tie
 
 returns : tie.Need-returns
 returns c = sym (referent-below _ _ _ (c .if1 .taken))
@@ -73,8 +74,8 @@ returns-4 c =
     ap (λ (x : ℕ). Found (base + (q - base) / x * x) (entry w)) (c .size-of .ensures)
     ∙ sym (by-entry w ∙ round-some (entry w) q (c .before .if3 .left))
 
-pub referent-at-spec : {M : Type 1} → statement M
-referent-at-spec =
+pub referent-in-spec : {M : Type 1} → statement M
+referent-in-spec =
     tie.close
     (tie.spec
     returns

@@ -1,4 +1,4 @@
--- A run's refusals, each where the code returns it, and what is known where there is none.
+-- A run's refusals: each is the first that applies where the code returns it (`by-..`), and where none does the records are carried out (`run-done`).
 use Prim.Native.Nat.{ℕ, zero, suc, _*_, _≤_, _<_}
 use mathlib.Core.Path.{_≡_, refl, sym, _∙_, ap}
 use mathlib.Core.Bool.{Bool, true, false, cond, _&&_}
@@ -16,7 +16,8 @@ use Rattle.heap.specs.Heaps.{Heap, heapOf, wrongSizes}
 use Rattle.heap.specs.Answers.{answerLength}
 use Rattle.heap.specs.Registers.{registersAtFirst}
 use Rattle.runner.specs.Runs.{RunOutcome, screenful, crowded, runRules, runSettled, runBy, runOf}
-use Rattle.runner.specs.Carrying.{State, stateOf, atFirst, allRecords, Runnable, mostRecords, ranTo}
+use Rattle.runner.specs.Runs.{mostRecords, ranTo}
+use Rattle.runner.specs.Inner.{State, stateOf, atFirst, allRecords, Runnable}
 use Rattle.runner.specs.declared.Ran.{Ran}
 use Rattle.runner.proofs.Files.{few-records}
 
@@ -73,7 +74,8 @@ module _ (panel : Bool) (file a tab out : List ℕ) where
   -- what is returned with the number k, nothing changed, is the run's outcome
   abbrev RefusedBy : ℕ → Type 0
   RefusedBy k =
-      (r : Ran) → r ≡ record { number = k; registers = record { values = registersAtFirst }; count = 0 } → ranTo r a tab out ≡ runBy panel file (heapOf a tab) out
+      (r : Ran) → r ≡ record { number = k; registers = record { values = registersAtFirst }; count = 0 }
+      → ranTo r a tab out ≡ runBy panel file (heapOf a tab) out
 
   refused-by : (k : ℕ) → (k ≡ 0 → ⊥) → number ≡ k → RefusedBy k
   unfolding runBy
@@ -124,7 +126,7 @@ ran-room file out h r a tab out′ e z = go (first (runRules false file h out)) 
         omega (arith, ltb-false (length out) (answerLength * length (recordsOf file)) (four .0), ap (λ (o : RunOutcome). o .count) e)
     go (suc k) q e = absurd (omega (arith, ap (λ (o : RunOutcome). o .number) e))
 
-settled-number : (k : ℕ) (file : List ℕ) (h : Heap) (out : List ℕ) → runSettled k file h out .number ≡ k
+pub settled-number : (k : ℕ) (file : List ℕ) (h : Heap) (out : List ℕ) → runSettled k file h out .number ≡ k
 settled-number zero file h out = refl
 settled-number (suc k) file h out = refl
 
