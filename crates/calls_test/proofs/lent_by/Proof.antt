@@ -3,8 +3,8 @@ use Prim.Native.Nat.{_%_, _^_, _≤_}
 use native.Mathlib.Omega.{arith}
 use lib.Pow.{pow-mono}
 use borrow.Author.Needs.{needs}
-use Rattle.calls.proofs.lent_by.Statement.{statement}
-use Rattle.calls.proofs.lent_by.Tie as tie
+use Rattle.calls_test.proofs.lent_by.Statement.{statement}
+use Rattle.calls_test.proofs.lent_by.Tie as tie
 
 size-of-requires : tie.Need-size-of-requires
 size-of-requires c κs = search needs

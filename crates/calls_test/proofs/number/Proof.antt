@@ -2,8 +2,8 @@
 use Prim.Native.Nat.{_-_}
 use lib.ListN.{length}
 use borrow.Author.Needs.{needs}
-use Rattle.calls.proofs.number.Statement.{statement}
-use Rattle.calls.proofs.number.Tie as tie
+use Rattle.calls_test.proofs.number.Statement.{statement}
+use Rattle.calls_test.proofs.number.Tie as tie
 
 abbrev Inv-loop : tie.InvT-loop
 Inv-loop text from v₀ at₀ v at = Unit

@@ -1,6 +1,6 @@
-// Makes the calls that standard input lists on one heap, a line each, and prints what each answers: its number and value, or for `show` its
-// number and bytes. Five words are no calls: `heap M` makes fresh buffers of order M, `only A T` lends A and T bytes from then on, `poke I V`
-// sets entry I of the table to V, `arena` and `table` print a buffer. What stands after a line's numbers is passed over.
+// A test, held to outside vectors: makes the calls that standard input lists on one heap, a line each, and prints what each answers: its number and
+// value, or for `show` its number and bytes. Five words are no calls: `heap M` makes fresh buffers of order M, `only A T` lends A and T bytes from
+// then on, `poke I V` sets entry I of the table to V, `arena` and `table` print a buffer. What stands after a line's numbers is passed over.
 use common::wide;
 use heap::Answer;
 use heap::SLOT_ORDER;
@@ -8,7 +8,7 @@ use libc::STDIN_FILENO;
 use libc::STDOUT_FILENO;
 ghost use Prim.Native.Nat.{_+_, _≤_, _<_};
 ghost use lib.ListN.{length};
-ghost use Rattle.calls.specs.Bounds.{Past, arenaMost, tableMost, Lendable};
+ghost use Rattle.calls_test.specs.Bounds.{Past, arenaMost, tableMost, Lendable};
 
 // The lengths of the largest arena and its table, and how much text is read.
 const ARENA: usize = 65536;

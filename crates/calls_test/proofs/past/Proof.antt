@@ -2,8 +2,8 @@
 use Prim.Native.Nat.{_≤_, _-_}
 use lib.ListN.{length}
 use borrow.Author.Needs.{needs}
-use Rattle.calls.proofs.past.Statement.{statement}
-use Rattle.calls.proofs.past.Tie as tie
+use Rattle.calls_test.proofs.past.Statement.{statement}
+use Rattle.calls_test.proofs.past.Tie as tie
 
 abbrev Inv-loop : tie.InvT-loop
 Inv-loop text from stop at₀ at = (from ≤ at) × (at ≤ length text)

@@ -2,8 +2,8 @@
 use Prim.Native.Nat.{_-_}
 use lib.ListN.{length}
 use borrow.Author.Needs.{needs}
-use Rattle.calls.proofs.print_bytes.Statement.{statement}
-use Rattle.calls.proofs.print_bytes.Tie as tie
+use Rattle.calls_test.proofs.print_bytes.Statement.{statement}
+use Rattle.calls_test.proofs.print_bytes.Tie as tie
 
 abbrev Inv-loop : tie.InvT-loop
 Inv-loop s i₀ t3 i = Unit

@@ -4,10 +4,10 @@ use mathlib.Core.Path.{_≡_, sym}
 use native.Mathlib.Omega.{arith}
 use lib.ListN.{length}
 use lib.Seq.{length-take-le}
-use Rattle.calls.specs.Bounds.{Lendable}
+use Rattle.calls_test.specs.Bounds.{Lendable}
 use borrow.Author.Needs.{needs}
-use Rattle.calls.proofs.run.Statement.{statement}
-use Rattle.calls.proofs.run.Tie as tie
+use Rattle.calls_test.proofs.run.Statement.{statement}
+use Rattle.calls_test.proofs.run.Tie as tie
 
 abbrev Inv-loop : tie.InvT-loop
 Inv-loop text arena₀ table₀ lent₀ at₀ arena table lent at =

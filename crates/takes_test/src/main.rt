@@ -1,4 +1,5 @@
-// Plays the takes 000.take, 001.take, .. of its folder, up to the first that is missing, and prints each one's name before its lines.
+// A test, held to outside vectors: plays the takes 000.take, 001.take, .. of its folder, up to the first that is missing, and prints each one's name
+// before its lines.
 use libc::STDOUT_FILENO;
 
 fn digit(n: usize) -> u8 {

@@ -1,8 +1,8 @@
 -- The takes are counted up to 1000.
 use Prim.Native.Nat.{_-_, _≤_}
 use native.Mathlib.Omega.{arith}
-use Rattle.vectors.proofs.main.Statement.{statement}
-use Rattle.vectors.proofs.main.Tie as tie
+use Rattle.takes_test.proofs.main.Statement.{statement}
+use Rattle.takes_test.proofs.main.Tie as tie
 
 abbrev Inv-loop : tie.InvT-loop
 Inv-loop n₀ n = n ≤ 1000
