@@ -1,4 +1,4 @@
--- Laws of rounding down to a multiple of 2 ^ e.
+-- Laws of rounding down to a multiple of 2 ^ e, by the law of quotient and remainder.
 use Prim.Native.Nat.{ℕ, _+_, _-_, _*_, _/_, _^_, _≤_, _<_}
 use mathlib.Core.Path.{_≡_, refl, sym, _∙_, ap}
 use native.Mathlib.Nat.{le-trans, le-of-eq, div-mul-le-self, lt-div-mul-add, add-sub-of-le, suc-mul, add-mul, mul-le-mul-right, mul-add-div-right}

@@ -12,7 +12,7 @@ use lib.Pow.{pow-add}
 use Rattle.blocks.specs.declared.Place.{Place}
 use Rattle.blocks.specs.declared.Place.the-variants.{At, Nothing}
 use Rattle.blocks.specs.Placing.{allFree, rangeStart, freeRange, maximal, lowest, atOrder, orElse, fromOrder, placeIn}
-use Rattle.blocks.proofs.Runs.{part}
+use Rattle.blocks.proofs.FreeRuns.{part}
 
 -- of two places the one of the smaller order, and the first of equals
 abbrev pub smallerOf : Place → Place → Place

@@ -1,4 +1,5 @@
--- The order of an arena's length, and the order that a get needs.
+-- The order of an arena's length, and the order that a get needs: one law for each step of the two loops, and what they find, by induction on the orders
+-- that are left.
 use Prim.Native.Nat.{ℕ, zero, suc, _+_, _-_, _^_, _≤_, _<_}
 use mathlib.Core.Path.{_≡_, refl, sym, ap, subst}
 use mathlib.Core.Bool.{Bool, true, false, cond}

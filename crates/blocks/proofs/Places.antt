@@ -13,7 +13,7 @@ use Rattle.blocks.specs.declared.Place.the-variants.{At, Nothing}
 use Rattle.blocks.specs.Placing.{rangeStart, freeRange, maximal, lowest, atOrder, orElse, fromOrder, placeIn}
 use Rattle.common.proofs.Booleans.{and-left, and-false-cases, or-right}
 use Rattle.blocks.proofs.Halves.{doubled, sizes}
-use Rattle.blocks.proofs.Runs.{all-at}
+use Rattle.blocks.proofs.FreeRuns.{all-at}
 
 -- range b of order k lies in the arena
 pub range-inside : (t m k b : ℕ) → t ≤ k → k ≤ m → b < 2 ^ (m - k) → b * 2 ^ (k - t) + 2 ^ (k - t) ≤ 2 ^ (m - t)

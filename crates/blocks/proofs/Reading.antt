@@ -1,4 +1,5 @@
--- The blocks that a table reads back as, and the set that an undamaged table stands for.
+-- The blocks that a table reads back as, and the set that an undamaged table stands for. A block is read back just where a slot has its order and is its
+-- first (`Read`); in an undamaged table each slot of a block leads to that one.
 use Prim.Native.Nat.{ℕ, zero, suc, _+_, _-_, _*_, _/_, _%_, _^_, _≤_, _<_}
 use mathlib.Core.Bool.{Bool, true, false, cond, not, _&&_, false≢true}
 use mathlib.Core.List.{List, [], _∷_, List·Memᴰ, List·Memᴰ·head, List·Memᴰ·tail, List·Memᴰ·not-nil, List·Memᴰ·cases-cons, Memᴰ·cast}

@@ -15,7 +15,7 @@ use Rattle.blocks.specs.Placing.{allFree}
 use Rattle.blocks.specs.Inner.{hasEntry, single, inRow}
 use Rattle.common.proofs.Booleans.{and-left, and-right, or-right}
 use Rattle.blocks.proofs.Floors.{floor-le, lt-floor, floor-end, floor-quotient, pow-split}
-use Rattle.blocks.proofs.Runs.{all-at, at-all}
+use Rattle.blocks.proofs.FreeRuns.{all-at, at-all}
 use Rattle.blocks.proofs.Tables.{Good, Whole, undamaged, undamaged-whole, free-good, whole-good, good-whole}
 
 -- an entry that is not single is not 0

@@ -19,7 +19,7 @@ use Rattle.blocks.specs.Inner.{bitsOf, asFree, decidedBy, PartOf, keyOf}
 use Rattle.blocks.proofs.Floors.{floor-le, lt-floor, floor-quotient, pow-split}
 use Rattle.blocks.proofs.Tables.{undamaged-whole}
 use Rattle.blocks.proofs.Bits.{bits-none, bits-all, all-bits}
-use Rattle.blocks.proofs.Runs.{all-at, all-stop, all-same}
+use Rattle.blocks.proofs.FreeRuns.{all-at, all-stop, all-same}
 use Rattle.blocks.proofs.Halves.{smallerOf, doubled, place-whole, place-none, place-halves}
 use Rattle.blocks.proofs.Keys.{Within, place-within, place-taken, key-right, key-left, key-first}
 

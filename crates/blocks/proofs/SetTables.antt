@@ -1,4 +1,5 @@
--- The table of a set of blocks: its entries, its referents, its free slots, and that it is undamaged and the only one.
+-- The table of a set of blocks: its entries, its referents, its free slots, and that it is undamaged and the only one. Each is read off the block of the
+-- set that holds a slot's first address.
 use Prim.Native.Nat.{ℕ, zero, suc, _+_, _-_, _*_, _^_, _≤_, _<_}
 use mathlib.Core.Bool.{false}
 use mathlib.Core.List.{List}

@@ -1,4 +1,4 @@
--- Sets of aligned blocks that don't overlap: the block of the set that holds an address.
+-- Sets of aligned blocks that don't overlap: the block of the set that holds an address is the first of the list that does, and no other does.
 use Prim.Native.Nat.{ℕ, _+_, _-_, _*_, _^_, _≤_, _<_}
 use mathlib.Core.Bool.{Bool, true, false, cond, false≢true}
 use mathlib.Core.List.{List, [], _∷_, List·Memᴰ, List·Memᴰ·head, List·Memᴰ·tail, List·Memᴰ·not-nil, List·Memᴰ·cases-cons}

@@ -1,4 +1,4 @@
--- Aligned blocks in slots of 2 ^ t bytes.
+-- Aligned blocks in slots of 2 ^ t bytes: both the start and the size are multiples of 2 ^ t, so that an address is in the block where its slot is.
 use Prim.Native.Nat.{ℕ, _+_, _-_, _*_, _/_, _^_, _≤_, _<_}
 use mathlib.Core.Bool.{true}
 use mathlib.Core.Path.{_≡_, refl, sym, _∙_, ap}

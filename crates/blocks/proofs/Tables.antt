@@ -1,4 +1,4 @@
--- Damaged and undamaged tables, slot by slot, for slots of 2 ^ t bytes.
+-- Damaged and undamaged tables, slot by slot, for slots of 2 ^ t bytes: a table is damaged where one slot is bad, and a good slot's block is whole.
 use Prim.Native.Nat.{ℕ, zero, suc, _+_, _-_, _^_, _≤_, _<_}
 use mathlib.Core.Bool.{Bool, true, false, not, _&&_, _||_, true≢false}
 use mathlib.Core.List.{List}

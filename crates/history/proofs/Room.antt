@@ -19,7 +19,7 @@ use Rattle.blocks.specs.declared.Place.the-variants.{At, Nothing}
 use Rattle.common.proofs.Booleans.{or-false-left, or-false-right, true-together}
 use Rattle.blocks.proofs.Halves.{sizes}
 use Rattle.blocks.proofs.Places.{place-complete}
-use Rattle.blocks.proofs.Runs.{at-all}
+use Rattle.blocks.proofs.FreeRuns.{at-all}
 use Rattle.blocks.proofs.Sets.{missing-none, none-missing}
 use Rattle.blocks.proofs.Slots.{slot-start, Slots, slots-of, slots-held}
 use Rattle.heap.specs.Views.{View, neededFor, placeFor, noPlace}

@@ -8,7 +8,7 @@ use Rattle.takes.specs.Files.{sizeByte, fileNumber}
 use Rattle.heap.specs.Views.{slotOrder}
 use Rattle.heap.specs.Heaps.{heapOf, wrongSizes}
 use Rattle.heap.specs.Answers.{answerLength}
-use Rattle.runner.specs.Runs.{mostRecords}
+use Rattle.runner.specs.TakeRuns.{mostRecords}
 
 -- an arena and a table of the file's size, where it is accepted, and room for the answers of any
 pub record Fitting (file a tab out : List ℕ) : Type 0 where

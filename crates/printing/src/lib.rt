@@ -14,8 +14,7 @@ ghost use Rattle.blocks.specs.Orders.{largestOrder};
 ghost use Rattle.takes.specs.Files.{sizeByte, fileNumber};
 ghost use Rattle.heap.specs.Heaps.{heapOf};
 ghost use Rattle.heap.specs.Answers.{answerLength};
-ghost use Rattle.runner.specs.Runs.{runOf};
-ghost use Rattle.runner.specs.Runs.{ranTo};
+ghost use Rattle.runner.specs.TakeRuns.{runOf, ranTo};
 ghost use Rattle.printing.specs.Fitting.{Fitting};
 
 fn print(text: &[u8]) {

@@ -18,7 +18,7 @@ use Rattle.takes.specs.Records.{recordOf}
 use Rattle.takes.specs.Reading.{readRules, readBytes}
 use Rattle.takes.specs.Files.{walk, headNumber, fileNumber, recordsOf, sizeByte}
 use Rattle.runner.specs.Decoding.{registersAfter}
-use Rattle.runner.specs.Runs.{Carried, carryOut, runBy}
+use Rattle.runner.specs.TakeRuns.{Carried, carryOut, runBy}
 
 unfoldable pub carried : List ℕ → Carried
 unfolding bigEndian bytesOf over copied floor any torn bad damagedBy referentIn sought signed checkBits within inReach orderOf neededOrder allFree

@@ -6,7 +6,7 @@ use mathlib.Core.List.{List, [], _∷_}
 use lib.ListN.{replicate}
 use Rattle.heap.specs.Heaps.{heapOf}
 use Rattle.takes.specs.Examples.{worked}
-use Rattle.runner.specs.Runs.{RunOutcome, runOf, panelOf}
+use Rattle.runner.specs.TakeRuns.{RunOutcome, runOf, panelOf}
 use Rattle.runner.proofs.Computing.{carried}
 
 -- a run of it on an arena of n bytes, a table of k and an answer slice of c

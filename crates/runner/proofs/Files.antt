@@ -1,4 +1,4 @@
--- What an accepted file is known to have, and how many records at most.
+-- What an accepted file is known to have, since no rule refused it, and how many records at most.
 use Prim.Native.Nat.{ℕ, _≤_}
 use mathlib.Core.Path.{_≡_}
 use mathlib.Core.Bool.{not, cond}
@@ -10,7 +10,7 @@ use Rattle.common.proofs.Refusals.{clear-number}
 use Rattle.takes.specs.Files.{walkFrom, headLength, headNumber, recordsNumber, fileNumber, recordsOf}
 use Rattle.takes.proofs.Walks.{from-spans}
 use Rattle.takes.proofs.Judging.{Head, head-accepted}
-use Rattle.runner.specs.Runs.{mostRecords}
+use Rattle.runner.specs.TakeRuns.{mostRecords}
 
 pub record Accepted (file : List ℕ) : Type 0 where
   pub head : Head file

@@ -10,7 +10,7 @@ use Rattle.common.specs.Refusals.{first}
 use Rattle.common.proofs.Refusals.{clear-one, clear-number}
 use Rattle.takes.specs.Files.{fileNumber, recordsOf}
 use Rattle.heap.specs.Heaps.{Heap}
-use Rattle.runner.specs.Runs.{screenful, crowded, runRules, runSettled, runBy, runOf, panelOf}
+use Rattle.runner.specs.TakeRuns.{screenful, crowded, runRules, runSettled, runBy, runOf, panelOf}
 use Rattle.runner.specs.Panel.{PanelAsUpload}
 use Rattle.runner.proofs.RunRefusals.{settled-number}
 

@@ -1,4 +1,4 @@
--- Records carried out one at a time: the first, and then the rest on what it left.
+-- Records carried out one at a time: the first, and then the rest on what it left. By the definition of `carryOut`, and the eight kinds of record.
 use Prim.Native.Nat.{ℕ, _+_, _≤_, _<_}
 use mathlib.Core.Path.{_≡_, refl, sym, _∙_, ap, ap₂}
 use mathlib.Core.Bool.{Bool, true, false, cond}
@@ -28,7 +28,7 @@ use Rattle.heap.proofs.Judging.{sound-sized}
 use Rattle.heap.proofs.AnswerBytes.{answers-next, answers-none}
 use Rattle.heap.specs.Registers.{registerCount, put}
 use Rattle.runner.specs.Decoding.{decoded, callOf, registersAfter}
-use Rattle.runner.specs.Runs.{Carried, carryOut}
+use Rattle.runner.specs.TakeRuns.{Carried, carryOut}
 use Rattle.runner.specs.Inner.{State, stateOf, oneRecord, allRecords, noRegister, indexOf, operandsOf, storedIn}
 
 pub all-next : (r : Record) (rest : List Record) (place : ℕ) (s : State) → place + answerLength ≤ length (s .answers)

@@ -15,8 +15,7 @@ use Rattle.heap.specs.Views.{slotOrder}
 use Rattle.heap.specs.Heaps.{Heap, heapOf, wrongSizes}
 use Rattle.heap.specs.Answers.{answerLength}
 use Rattle.heap.specs.Registers.{registersAtFirst}
-use Rattle.runner.specs.Runs.{RunOutcome, screenful, crowded, runRules, runSettled, runBy, runOf}
-use Rattle.runner.specs.Runs.{mostRecords, ranTo}
+use Rattle.runner.specs.TakeRuns.{RunOutcome, screenful, crowded, runRules, runSettled, runBy, runOf, mostRecords, ranTo}
 use Rattle.runner.specs.Inner.{State, stateOf, atFirst, allRecords, Runnable}
 use Rattle.runner.specs.declared.Ran.{Ran}
 use Rattle.runner.proofs.Files.{few-records}

@@ -1,4 +1,5 @@
--- Where a run stands between two records, from the fresh heap to the end of the file.
+-- Where a run stands between two records (`Going`), from the fresh heap to the end of the file: it holds at the start, a record keeps it, and at the end it
+-- is what the run promises.
 use Prim.Native.Nat.{ℕ, suc, _+_, _*_, _≤_, _<_}
 use mathlib.Core.Path.{_≡_, refl, sym, _∙_, ap, ap₂, subst}
 use mathlib.Core.List.{List}

@@ -16,7 +16,7 @@ use Rattle.heap.specs.Answers.{answerLength, answerBytes, answersBytes}
 use Rattle.heap.specs.declared.Answer.{Answer}
 use Rattle.heap.specs.Registers.{registerCount, registersAtFirst}
 use Rattle.runner.specs.Decoding.{decoded, callOf, registersAfter}
-use Rattle.runner.specs.Runs.{carryOut}
+use Rattle.runner.specs.TakeRuns.{carryOut}
 use Rattle.runner.specs.declared.decoding.Operands.{Operands}
 
 -- a heap, the registers and the answer slice

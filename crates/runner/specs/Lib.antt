@@ -1,4 +1,4 @@
 pub mod Decoding
-pub mod Runs
+pub mod TakeRuns
 pub mod Panel
 pub mod Inner

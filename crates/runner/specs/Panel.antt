@@ -5,7 +5,7 @@ use mathlib.Core.List.{List}
 use lib.ListN.{length}
 use Rattle.takes.specs.Files.{fileNumber, recordsOf}
 use Rattle.heap.specs.Heaps.{Heap}
-use Rattle.runner.specs.Runs.{screenful, runSettled, runOf, panelOf}
+use Rattle.runner.specs.TakeRuns.{screenful, runSettled, runOf, panelOf}
 
 -- Outcomes are compared whole: number, registers, count, arena, table and answer slice.
 pub record PanelAsUpload (file : List ℕ) (h : Heap) (out : List ℕ) : Type 0 where

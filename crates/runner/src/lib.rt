@@ -15,8 +15,7 @@ ghost use Rattle.heap.specs.Answers.{answerLength, answerBytes};
 ghost use Rattle.heap.specs.Inner.{Sound};
 ghost use Rattle.takes.specs.Files.{recordsOf};
 ghost use Rattle.heap.specs.Registers.{registersAtFirst};
-ghost use Rattle.runner.specs.Runs.{screenful, runBy, runOf, panelOf};
-ghost use Rattle.runner.specs.Runs.{ranTo};
+ghost use Rattle.runner.specs.TakeRuns.{screenful, runBy, runOf, panelOf, ranTo};
 ghost use Rattle.runner.specs.Inner.{stateOf, atFirst, allRecords, Runnable};
 
 mod decoding;

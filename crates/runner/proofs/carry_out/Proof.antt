@@ -1,6 +1,6 @@
 -- The loop keeps `Going`: what is still to come gives what the whole run gives. A file that was judged has no refused record, so each is read without
 -- judging it again.
-use Prim.Native.Nat.{ℕ, _+_, _-_, _≤_, _<_}
+use Prim.Native.Nat.{ℕ, _+_, _-_, _<_}
 use mathlib.Core.Path.{_≡_, refl, sym, _∙_, ap}
 use mathlib.Core.List.{List}
 use native.Mathlib.Omega.{arith}
@@ -12,7 +12,7 @@ use Rattle.heap.specs.Answers.{answerLength}
 use Rattle.heap.specs.declared.Answer.{Answer}
 use Rattle.heap.specs.Registers.{registerCount, held}
 use Rattle.runner.specs.Decoding.{decoded, callOf, registersAfter}
-use Rattle.runner.specs.Inner.{stateOf, oneRecord, operandsOf, storedIn}
+use Rattle.runner.specs.Inner.{stateOf, oneRecord, storedIn}
 use Rattle.runner.specs.declared.decoding.Operands.{Operands}
 use Rattle.runner.proofs.Records.{stored-in, one-record}
 use Rattle.runner.proofs.Running.{run-sized, Going, going-start, going-good, Ready, going-ready, going-step, going-end}

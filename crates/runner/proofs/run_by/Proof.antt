@@ -11,7 +11,7 @@ use Rattle.takes.specs.declared.Judgement.{Judgement}
 use Rattle.heap.specs.Views.{slotOrder}
 use Rattle.heap.specs.Heaps.{heapOf, wrongSizes}
 use Rattle.heap.proofs.Lengths.{order-other, order-this}
-use Rattle.runner.specs.Runs.{crowded}
+use Rattle.runner.specs.TakeRuns.{crowded}
 use Rattle.runner.specs.Inner.{Runnable}
 use Rattle.runner.proofs.Files.{accepted-file, few-records}
 use Rattle.runner.proofs.RunRefusals.{judge-refused, Judged, judge-accepted, screen-full, screen-room, no-screen}

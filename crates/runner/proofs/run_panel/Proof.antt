@@ -1,7 +1,7 @@
 -- The panel's run is the inner run; that it is the upload's where it accepts, or the screen can list the take, is the theorem.
 use mathlib.Core.Path.{_≡_, sym, _∙_, ap}
 use borrow.Author.Needs.{needs}
-use Rattle.runner.specs.Runs.{RunOutcome, panelOf}
+use Rattle.runner.specs.TakeRuns.{RunOutcome, panelOf}
 use Rattle.runner.proofs.Panel.{panel-as-upload}
 use Rattle.runner.proofs.run_panel.Statement.{statement}
 use Rattle.runner.proofs.run_panel.Tie as tie

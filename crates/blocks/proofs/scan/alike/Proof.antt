@@ -6,7 +6,7 @@ use native.Mathlib.Omega.{arith}
 use borrow.Author.Tests.{eq-eqb, ne-eqb}
 use Rattle.blocks.specs.Inner.{hasEntry}
 use Rattle.blocks.specs.Placing.{allFree}
-use Rattle.blocks.proofs.Runs.{all-none, all-whole, all-before}
+use Rattle.blocks.proofs.FreeRuns.{all-none, all-whole, all-before}
 use Rattle.blocks.proofs.scan.alike.Statement.{statement}
 use Rattle.blocks.proofs.scan.alike.Tie as tie
 

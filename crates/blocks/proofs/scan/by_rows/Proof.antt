@@ -21,7 +21,7 @@ use Rattle.blocks.specs.Tables.{damagedBy}
 use Rattle.blocks.specs.Inner.{hasEntry}
 use Rattle.blocks.proofs.Floors.{floor-le, lt-floor, floor-end}
 use Rattle.blocks.proofs.Tables.{Good, Whole, damaged-at, undamaged, order-bad, whole-good}
-use Rattle.blocks.proofs.Runs.{part-length, part-entry, run-of-part}
+use Rattle.blocks.proofs.FreeRuns.{part-length, part-entry, run-of-part}
 use Rattle.blocks.proofs.Rows.{run-at, run-bad, floor-rows, row-good, row-undamaged, whole-rows, below-both}
 use Rattle.blocks.proofs.scan.by_rows.Statement.{statement}
 use Rattle.blocks.proofs.scan.by_rows.Tie as tie

@@ -7,7 +7,7 @@ use native.Mathlib.Omega.{arith}
 use Rattle.blocks.specs.Tables.{freeIn}
 use Rattle.blocks.specs.Inner.{asFree}
 use Rattle.blocks.specs.Placing.{allFree}
-use Rattle.blocks.proofs.Runs.{all-none, all-whole, all-before}
+use Rattle.blocks.proofs.FreeRuns.{all-none, all-whole, all-before}
 use Rattle.blocks.proofs.search.row_is.Statement.{statement}
 use Rattle.blocks.proofs.search.row_is.Tie as tie
 

@@ -12,7 +12,7 @@ use lib.Dec.{eqb, leb}
 use lib.ListN.{length}
 use Rattle.blocks.specs.Inner.{asFree}
 use Rattle.blocks.specs.Placing.{allFree}
-use Rattle.blocks.proofs.Runs.{all-none, row-stop, row-step, part-length, run-of-part}
+use Rattle.blocks.proofs.FreeRuns.{all-none, row-stop, row-step, part-length, run-of-part}
 use Rattle.blocks.proofs.search.uniform.Statement.{statement}
 use Rattle.blocks.proofs.search.uniform.Tie as tie
 

@@ -1,4 +1,4 @@
--- Runs of free slots.
+-- Runs of free slots: what `allFree` says of a run, of each of its slots and of its parts, by induction on its length.
 use Prim.Native.Nat.{ℕ, zero, suc, _+_, _-_, _≤_, _<_}
 use mathlib.Core.Bool.{Bool, true, false, _&&_, and-assoc}
 use mathlib.Core.List.{List}
