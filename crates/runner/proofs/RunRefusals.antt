@@ -20,12 +20,15 @@ use Rattle.runner.specs.Inner.{State, stateOf, atFirst, allRecords, Runn
 use Rattle.runner.specs.declared.Ran.{Ran}
 use Rattle.runner.proofs.Files.{few-records}
 
+-- the judgement of a file, b telling whether it is accepted
+abbrev judgedAs : List ℕ → Bool → Judgement
+judgedAs file b =
+    cond b (record { number = 0; size = sizeByte file; count = length (recordsOf file) }) (record { number = fileNumber file; size = 0; count = 0 })
+
 pub judge-refused : (file : List ℕ) (j : Judgement) → j ≡ judgement file → (j .number ≡ 0 → ⊥) → fileNumber file ≡ j .number
 judge-refused file j e d = go (eqb (fileNumber file) 0) e
   where
-    go : (b : Bool)
-        → j ≡ cond b (record { number = 0; size = sizeByte file; count = length (recordsOf file) }) (record { number = fileNumber file; size = 0; count = 0 })
-        → fileNumber file ≡ j .number
+    go : (b : Bool) → j ≡ judgedAs file b → fileNumber file ≡ j .number
     go true e = absurd (d (ap (λ (j : Judgement). j .number) e))
     go false e = sym (ap (λ (j : Judgement). j .number) e)
 
@@ -38,9 +41,7 @@ pub record Judged (file : List ℕ) (j : Judgement) : Type 0 where
 pub judge-accepted : (file : List ℕ) (j : Judgement) → j ≡ judgement file → j .number ≡ 0 → Judged file j
 judge-accepted file j e z = go (eqb (fileNumber file) 0) refl e
   where
-    go : (b : Bool) → eqb (fileNumber file) 0 ≡ b
-        → j ≡ cond b (record { number = 0; size = sizeByte file; count = length (recordsOf file) }) (record { number = fileNumber file; size = 0; count = 0 })
-        → Judged file j
+    go : (b : Bool) → eqb (fileNumber file) 0 ≡ b → j ≡ judgedAs file b → Judged file j
     go true q e =
         record {
           judged = eqb-true (fileNumber file) 0 q;

@@ -42,23 +42,26 @@ abbrev μ-scan : tie.MeasureT-scan
 
 -- in the outer loop: the table, the orders of a slot and of the arena, the slot, and what is known of the slots before it
 module _ (c : tie.In-scan Inv-block μ-block Inv-scan μ-scan) where
+  abbrev start : tie.Start Inv-block μ-block Inv-scan μ-scan
+  start = c .before .before .before
+
   abbrev table : List ℕ
-  table = now (c .before .before .before .args .table)
+  table = now (start .args .table)
 
   abbrev t : ℕ
-  t = c .before .before .before .args .t
+  t = start .args .t
 
   abbrev top : ℕ
-  top = c .before .before .before .args .m
+  top = start .args .m
 
   abbrev slot : ℕ
   slot = c .before .scan .i
 
   top-high : t + 4 ≤ top
-  top-high = c .before .before .before .pre .1
+  top-high = start .pre .1
 
   slots-are : length table ≡ 2 ^ (top - t)
-  slots-are = c .before .before .before .pre .3
+  slots-are = start .pre .3
 
   passed : (j : ℕ) → j < slot → Good t top table j
   passed = c .before .scan .inv .3

@@ -39,14 +39,17 @@ abbrev μ-scan : tie.MeasureT-scan
 
 -- in the outer loop: the table, the orders of a slot and of the arena, the slot, and what is known of the slots before it
 module _ (c : tie.In-scan Inv-block μ-block Inv-scan μ-scan) where
+  abbrev start : tie.Start Inv-block μ-block Inv-scan μ-scan
+  start = c .before .before .before
+
   abbrev table : List ℕ
-  table = now (c .before .before .before .args .table)
+  table = now (start .args .table)
 
   abbrev t : ℕ
-  t = c .before .before .before .args .t
+  t = start .args .t
 
   abbrev top : ℕ
-  top = c .before .before .before .args .m
+  top = start .args .m
 
   abbrev slot : ℕ
   slot = c .before .scan .i
@@ -55,10 +58,10 @@ module _ (c : tie.In-scan Inv-block μ-block Inv-scan μ-scan) where
   passed = c .before .scan .inv .2
 
   t-positive : t ≡ 0 → ⊥
-  t-positive z = omega (arith, c .before .before .before .pre .0)
+  t-positive z = omega (arith, start .pre .0)
 
   top-low : t ≤ top
-  top-low = c .before .before .before .pre .1
+  top-low = start .pre .1
 
 -- where the entry is an order: the entry, and the range round the slot
 module _ (c : tie.Else2 Inv-block μ-block Inv-scan μ-scan) where
@@ -99,7 +102,7 @@ module _ (c : tie.Else2 Inv-block μ-block Inv-scan μ-scan) where
 
   ends : floor levels (slot turn) + 2 ^ levels ≤ length (table turn)
   ends =
-      let len = turn .before .before .before .pre .3 in
+      let len = start turn .pre .3 in
       rw len (floor-end levels _ (slot turn) (omega (arith, high-order)) (rw len at (turn .scan-test .taken)))
 
 -- its bounds, as the code computes them
@@ -164,7 +167,7 @@ is-order-requires : tie.Need-is-order-requires Inv-block μ-block Inv-scan μ-sc
 is-order-requires c κs = search needs
 
 slots-of-requires : tie.Need-slots-of-requires Inv-block μ-block Inv-scan μ-scan
-slots-of-requires c κs = (low-order c, omega (arith, high-order c, turn c .before .before .before .pre .2))
+slots-of-requires c κs = (low-order c, omega (arith, high-order c, start (turn c) .pre .2))
 
 div-from : tie.Need-div-from Inv-block μ-block Inv-scan μ-scan
 div-from c = rw (c .slots-of .ensures) (pow-pos _)

@@ -1,4 +1,4 @@
--- The loop's invariant: `bits` are those of the slots from i on, at most 2 ^ 16 of them.
+-- The loop's invariant: `bits` are those of the slots from i on, at most 16 of them, so that the number stays below 2 ^ 16 (`small`).
 use mathlib.Core.Path.{_≡_, sym, _∙_}
 use Prim.Native.Nat.{ℕ, _≤_, _<_, _+_, _-_, _*_, _^_}
 use mathlib.Core.Bool.{cond}
@@ -52,8 +52,9 @@ shared-slice-read-if1 c = omega arith
 
 add-bits : tie.Need-add-bits Inv-loop μ-loop
 add-bits c =
-    let s = c .before .before .before .before in
-    let l = c .before .before .before .loop in
+    let head : tie.At-loop Inv-loop μ-loop = c .before .before .before in
+    let s = head .before in
+    let l = head .loop in
     omega (arith, small (s .args .part .now) (l .i) (l .bits) (s .pre) (l .inv .1))
 
 loop-less : tie.Need-loop-less Inv-loop μ-loop
@@ -61,8 +62,9 @@ loop-less c = omega arith
 
 loop-again : tie.Need-loop-again Inv-loop μ-loop
 loop-again c =
-    let s = c .before .before .before .before in
-    let l = c .before .before .before .loop in
+    let head : tie.At-loop Inv-loop μ-loop = c .before .before .before in
+    let s = head .before in
+    let l = head .loop in
     let free : _≡_ {A = ℕ} (cond (eqb (getD (s .args .part .now) (l .i - 1) 0) 0) 1 0) 1 = rw (eq-eqb _ _ (c .if1 .taken)) in
     let next = before (s .args .part .now) (l .i) (l .bits) (omega arith) (omega arith) (l .inv .1) in
     (omega arith, omega arith)
@@ -72,8 +74,9 @@ loop-less-2 c = omega arith
 
 loop-again-2 : tie.Need-loop-again-2 Inv-loop μ-loop
 loop-again-2 c =
-    let s = c .before .before .before .before in
-    let l = c .before .before .before .loop in
+    let head : tie.At-loop Inv-loop μ-loop = c .before .before .before in
+    let s = head .before in
+    let l = head .loop in
     let taken : _≡_ {A = ℕ} (cond (eqb (getD (s .args .part .now) (l .i - 1) 0) 0) 1 0) 0 = rw (ne-eqb _ _ (c .if1 .left)) in
     let next = before (s .args .part .now) (l .i) (l .bits) (omega arith) (omega arith) (l .inv .1) in
     (omega arith, omega arith)

@@ -44,8 +44,9 @@ loop-less c = omega arith
 
 loop-again : tie.Need-loop-again Inv-loop μ-loop
 loop-again c =
-    let l = c .before .before .before .loop in
-    let a = c .before .before .before .before .args in
+    let head : tie.At-loop Inv-loop μ-loop = c .before .before .before in
+    let l = head .loop in
+    let a = head .before .args in
     let other = unlike (freeIn (a .row .now) (l .i - 1)) (a .free) (c .if1 .taken) in
     (omega arith, sym (all-before _ 0 (l .i) 16 (omega arith) (omega arith) ∙ rw (zero-add, other)))
 
@@ -54,8 +55,9 @@ loop-less-2 c = omega arith
 
 loop-again-2 : tie.Need-loop-again-2 Inv-loop μ-loop
 loop-again-2 c =
-    let l = c .before .before .before .loop in
-    let a = c .before .before .before .before .args in
+    let head : tie.At-loop Inv-loop μ-loop = c .before .before .before in
+    let l = head .loop in
+    let a = head .before .args in
     let one = like (freeIn (a .row .now) (l .i - 1)) (a .free) (c .if1 .left) in
     (omega arith, l .inv .1 ∙ sym (all-before _ 0 (l .i) 16 (omega arith) (omega arith) ∙ rw (zero-add, one)))
 
