@@ -55,7 +55,7 @@ enum tulivombe_number {
     TULIVOMBE_VALUE_TOO_WIDE = 12,   /* v does not fit w bytes */
     TULIVOMBE_MARKED = 13,           /* marked pointer in any call but step */
     TULIVOMBE_DAMAGED = 20,          /* the table stands for no set of blocks */
-    TULIVOMBE_NO_FREE_RANGE = 21,    /* get: no free range of the order */
+    TULIVOMBE_NO_FREE_RANGE = 21,    /* get: no free range is large enough */
     TULIVOMBE_NO_REFERENT = 22,      /* a pointer belongs to no live block */
     TULIVOMBE_NOT_THE_START = 23,    /* give: not the block's start */
     TULIVOMBE_BEYOND_REACH = 24,     /* step: more than 8 bytes outside the block */
@@ -150,8 +150,8 @@ tulivombe_answer tulivombe_check(const uint8_t *arena, size_t arena_len, const u
 tulivombe_part tulivombe_show(const uint8_t *arena, size_t arena_len, const uint8_t *table, size_t table_len,
                               uint32_t p);
 
-/* Runs a take, an upload from a computer, on a heap that it first makes fresh. The arena's length must be the
- * file's size and the answer slice hold TULIVOMBE_ANSWER_LENGTH bytes a record: number, then value big-endian;
+/* Runs a take, an upload from a computer, on a heap that it first makes fresh. The arena must have 2^m
+ * bytes, m the file's size byte, and the answer slice hold TULIVOMBE_ANSWER_LENGTH bytes a record: number, then value big-endian;
  * its bytes past them stay. The file is judged whole before any call, its records in their order, each for 4 to
  * 7; a refused record ends nothing. Refused: 1 to 9, and then nothing is changed. */
 tulivombe_ran tulivombe_run(const uint8_t *file, size_t file_len, uint8_t *arena, size_t arena_len,

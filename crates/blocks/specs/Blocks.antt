@@ -23,7 +23,7 @@ pub record Block : Type 0 where
 abbrev pub holds : Block → ℕ → Bool
 holds b q = leb (b .start) q && ltb q (b .start + 2 ^ b .order)
 
--- the block is one of an arena of 2 ^ m bytes whose smallest order is t: its start less the arena's is a multiple of its size, and it ends in the arena
+-- the block is one of an arena of 2 ^ m bytes in slots of 2 ^ t: its start less the arena's is a multiple of its size, and it ends in the arena
 pub record Aligned (t m : ℕ) (b : Block) : Type 0 where
   pub low : t ≤ b .order
   pub high : b .order ≤ m

@@ -55,7 +55,7 @@ unfoldable pub within : Referent → ℤ → Bool
 within Missing z = false
 within (Found s e) z = leZ (pos s) z && ltZ z (pos (s + 2 ^ e))
 
--- it lies in reach of the block: at most half a slot before its start, or past its end
+-- it lies in reach of the block: from half a slot before its start up to it, or in the half slot that follows its last byte
 unfoldable pub inReach : ℕ → Referent → ℤ → Bool
 inReach t Missing z = false
 inReach t (Found s e) z =

@@ -1,7 +1,7 @@
 -- Where a pointer leads, by the rules that refuse it and its referent: by cases of both, since 22 refuses exactly the pointer that has none (`found`).
 use Prim.Native.Nat.{ℕ, zero, suc}
 use mathlib.Core.Path.{_≡_, refl, sym, _∙_, ap}
-use mathlib.Core.Bool.{true, false, false≢true}
+use mathlib.Core.Bool.{false, false≢true}
 use native.Mathlib.Omega.{arith}
 use Rattle.common.specs.Refusals.{first}
 use Rattle.blocks.specs.Blocks.{missing}

@@ -126,9 +126,6 @@ module _ (t m : ℕ) (a tab : List ℕ) (p i s e : ℕ) (f : referentAt (referen
   abbrev h : ℕ
   h = fromZero (sought t p)
 
-  abbrev z : ℤ
-  z = exactSum (address p) i
-
   abbrev passed : Bool
   passed = checkBits e h (wrappedSum (address p) i)
 

@@ -9,7 +9,7 @@ use Rattle.common.specs.Refusals.{_when_, first}
 use Rattle.common.specs.Bytes.{over}
 use Rattle.blocks.specs.Blocks.{base, orderIn}
 use Rattle.blocks.specs.Tables.{damagedBy, freeIn, referentIn}
-use Rattle.blocks.specs.Pointers.{sought, referentAt, address, wrappedSum, checkBits}
+use Rattle.blocks.specs.Pointers.{sought, pointerReferent, address, wrappedSum, checkBits}
 use Rattle.blocks.specs.Orders.{isArenaOrder, orderOf}
 use Rattle.blocks.specs.declared.Referent.{Referent}
 use Rattle.blocks.specs.declared.Referent.the-variants.{Missing, Found}
@@ -28,7 +28,7 @@ pub record Heap : Type 0 where
 abbrev pub heapOf : List ℕ → List ℕ → Heap
 heapOf a tab = record { arena = a; table = tab }
 
--- by the check: h, the address at which p's referent is sought, and the 32-bit sum lie in one block of the referent's order
+-- by the check: h, the address at which p's referent is sought, and the 32-bit sum lie in one block of the referent's order (a negative h has no referent)
 unfoldable pub insideByCheck : ℕ → Referent → ℕ → ℕ → Bool
 insideByCheck t Missing p i = false
 insideByCheck t (Found s e) p i = checkBits e (natAbs (sought t p)) (wrappedSum (address p) i)
@@ -37,7 +37,7 @@ insideByCheck t (Found s e) p i = checkBits e (natAbs (sought t p)) (wrappedSum 
 abbrev pub wrongSizes : (t m : ℕ) → Heap → Bool
 wrongSizes t m h = not (isArenaOrder m && (eqb (length (h .arena)) (2 ^ m) && eqb (length (h .table)) (2 ^ (m - t))))
 
--- the heap as such an arena
+-- the heap seen as an arena of 2 ^ m bytes in slots of 2 ^ t
 abbrev pub heapView : (t m : ℕ) → Heap → View
 heapView t m h =
     record {
@@ -47,7 +47,7 @@ heapView t m h =
       damaged = damagedBy t m (h .table);
       free = freeIn (h .table);
       referent = referentIn t (h .table);
-      inside = λ p i. insideByCheck t (referentAt (referentIn t (h .table)) (sought t p)) p i;
+      inside = λ p i. insideByCheck t (pointerReferent t (referentIn t (h .table)) p) p i;
     }
 
 -- the table with x in each slot of the block of order e that starts at s
@@ -84,7 +84,7 @@ freshIn t m = heapOf (replicate (2 ^ m) 0) (replicate (2 ^ (m - t)) 0)
 abbrev pub freshHeap : ℕ → Heap
 freshHeap m = freshIn slotOrder m
 
--- The number by which check and show are refused: that of a plain pointer alone.
+-- The number by which check and show are refused.
 abbrev pub pointerNumber : Heap → ℕ → ℕ
 pointerNumber h p = first (addressRules (viewOf h) p)
 

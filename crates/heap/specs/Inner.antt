@@ -1,5 +1,5 @@
--- What the parts of a call's code say to each other. Only the contracts of inner functions cite these: no public contract rests on them, and document 01 has
--- none of them.
+-- What the parts of a call's code say to each other. Only the contracts of inner functions cite these: no customer's call rests on them, and document 01
+-- has none of them.
 use Prim.Native.Nat.{ℕ, zero, suc, _-_, _^_, _≤_, _<_}
 use mathlib.Core.Path.{_≡_}
 use mathlib.Core.Bool.{true, false, not, cond}
@@ -45,7 +45,7 @@ pub record Ready (t m : ℕ) (c : Call) (a tab : List ℕ) : Type 0 where
 abbrev pub beforeCall : (t m n : ℕ) → List ℕ → ℕ
 beforeCall t m n tab = first (8 when eqb m 0 ∷ n when not (eqb n 0) ∷ 20 when damagedBy t m tab ∷ [])
 
--- where a pointer leads: to the block of its referent, or to the number that refuses it
+-- where a pointer leads: to the block of its referent, or to the number that refuses it (the first case never occurs: a missing referent is refused)
 abbrev pub locatedBy : ℕ → Referent → Located
 locatedBy zero Missing = Refused 0
 locatedBy zero (Found s e) = Inside s e

@@ -1,4 +1,4 @@
--- The numbers by which lists in bytes name the eight calls, the same in the records of a take and in the calls of a replay.
+-- How many calls lists in bytes can name: the operations are 1 to 8, the same in the records of a take and in the calls of a replay.
 use Prim.Native.Nat.{ℕ}
 use mathlib.Core.Bool.{Bool, _&&_}
 use lib.Dec.{leb}

@@ -63,6 +63,6 @@ stateRules (Fill p v n) w = homeRules w p
 unfoldable pub rules : Call → View → List Refusal
 rules c w = 8 when w .wrong-sizes ∷ (argumentRules (w .order) c ++ (20 when w .damaged ∷ stateRules c w))
 
--- Of check and show, which are in no list of calls: the same for a plain pointer and its referent.
+-- Of check and show, which are in no list of calls: 8, 13, 20, 22, which are left's too (`address-left` in heap/proofs).
 unfoldable pub addressRules : View → ℕ → List Refusal
 addressRules w p = 8 when w .wrong-sizes ∷ (plainRules p ++ (20 when w .damaged ∷ homeRules w p))

@@ -2,14 +2,14 @@
 use Prim.Native.Nat.{ℕ, _+_, _*_, _^_}
 use mathlib.Core.Bool.{Bool, true, false}
 use Rattle.blocks.specs.Blocks.{base, leftIn}
-use Rattle.blocks.specs.Pointers.{sought, referentAt}
+use Rattle.blocks.specs.Pointers.{pointerReferent}
 use Rattle.blocks.specs.Orders.{neededOrder}
 use Rattle.blocks.specs.Placing.{placeIn}
 use Rattle.blocks.specs.declared.Referent.{Referent}
 use Rattle.blocks.specs.declared.Place.{Place}
 use Rattle.blocks.specs.declared.Place.the-variants.{At, Nothing}
 
--- the smallest order, that of a slot, in every public call
+-- the order of a slot in every public call
 abbrev pub slotOrder : ℕ
 slotOrder = 4
 
@@ -28,7 +28,7 @@ pub record View : Type 0 where
 
 -- the referent ("home") of a pointer, plain or marked
 abbrev pub referentOfPointer : View → ℕ → Referent
-referentOfPointer w p = referentAt (w .referent) (sought (w .slot) p)
+referentOfPointer w p = pointerReferent (w .slot) (w .referent) p
 
 -- bytes from p to its referent's end
 abbrev pub leftFrom : View → ℕ → ℕ

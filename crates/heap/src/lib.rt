@@ -1,5 +1,5 @@
-// The heap: fresh, the eight calls, check and show, on an arena and a table that the caller lends. Each call judges its input, and then
-// calls its inner function in `unchecked`.
+// The heap: fresh, the eight calls, check and show, on an arena and a table that the caller lends. The eight and check judge their
+// input, and then call their inner function in `unchecked`.
 use blocks::BASE;
 ghost use mathlib.Core.Path.{_≡_};
 ghost use Prim.Native.Nat.{_+_};

@@ -1,4 +1,4 @@
-// What a call's input and the table's state decide before the call is carried out.
+// What a call's input and the table's state decide before the call is carried out, and where a pointer leads.
 use crate::Call;
 use blocks::Referent;
 ghost use mathlib.Core.Path.{_≡_};
@@ -112,7 +112,7 @@ pub enum Located {
     Inside(u32, u32),
 }
 
-// What every call that needs a pointer's referent judges it by, the table being undamaged.
+// What every call that needs a pointer's referent judges it by, the table being undamaged. The arena plays no part, so the view has an empty one.
 pub fn locate(table: &[u8], t: u32, m: u32, p: u32) -> Located
     requires { ⌜ (1 ≤ t) × (t ≤ m) × (m ≤ 16) × (length (now table) ≡ 2 ^ (m - t)) × (damagedBy t m (now table) ≡ false) ⌝ }
     ensures { λ r. ⌜ r ≡ located (heapView t m (heapOf [] (now (table .entry)))) p ⌝ }

@@ -159,7 +159,7 @@ pub fn left(arena: &[u8], table: &[u8], t: u32, m: u32, p: u32) -> Answer
     }
 }
 
-// Of two pointers that are refused the greater number counts: whichever pointer has it, its rule comes first.
+// Either pointer's refusal refuses the copy; one that leads to a block counts as 0.
 pub fn copy(arena: &mut [u8], table: &[u8], t: u32, m: u32, p: u32, q: u32, n: u32) -> Answer
     requires { ⌜ Ready t m (Call.Copy p q n) (now arena) (now table) ⌝ }
     ensures { λ r. ⌜ outcome r (now (arena .exit)) (now (table .entry)) ≡ heapStep t m (Call.Copy p q n) (heapOf (now (arena .entry)) (now (table .entry))) ⌝ }

@@ -1,6 +1,6 @@
 -- While a block lives, a read or a copy whose source pointer does not lie in it reveals no byte of it: an accepted one takes its bytes from its pointer's
 -- referent, which is another block (`elsewhere`). A refused one takes none.
-use Prim.Native.Nat.{ℕ, zero, suc, _+_, _-_, _≤_, _<_}
+use Prim.Native.Nat.{ℕ, zero, suc, _+_, _≤_, _<_}
 use mathlib.Core.Path.{_≡_, refl, sym, _∙_, ap, subst}
 use mathlib.Core.Bool.{Bool, true, false, not, _&&_, false≢true}
 use mathlib.Core.List.{List}

@@ -11,7 +11,7 @@ use Rattle.heap.specs.Changes.{Change, adds, removes, keeps, changeOf}
 use Rattle.heap.specs.declared.Answer.{Answer}
 use Rattle.heap.specs.declared.Call.{Call}
 
--- the change that a give of s makes
+-- whether the change is that of a give of s
 abbrev pub removesAt : Change → ℕ → Bool
 removesAt (adds n) s = false
 removesAt (removes p) s = eqb p s
@@ -51,7 +51,7 @@ pub record Starved (t m : ℕ) (live : List Block) (n : ℕ) : Type 0 where
   pub fits : n ≤ 2 ^ m
   pub none : (r : Block) → FreeRange t m live r → neededOrder t m n ≤ r .order → ⊥
 
--- the call is such a get
+-- the change is that of such a get
 abbrev pub StarvedGet : (t m : ℕ) → List Block → Change → Type 0
 StarvedGet t m live (adds n) = Starved t m live n
 StarvedGet t m live (removes p) = ⊥

@@ -6,7 +6,7 @@ use lib.Dec.{eqb}
 use lib.ListN.{replicate}
 use Rattle.blocks.specs.Blocks.{base, Block, missing}
 use Rattle.blocks.specs.Sets.{referentOf}
-use Rattle.blocks.specs.Pointers.{sought, referentAt, address, exactSum, within}
+use Rattle.blocks.specs.Pointers.{pointerReferent, address, exactSum, within}
 use Rattle.heap.specs.Views.{View, neededFor, startFor}
 use Rattle.heap.specs.Rules.{rules}
 use Rattle.heap.specs.Effects.{value, stored, Outcome, judged}
@@ -28,7 +28,7 @@ ledgerView t m l =
       damaged = false;
       free = λ i. missing (referentOf (l .pairs) (base + i * 2 ^ t));
       referent = referentOf (l .pairs);
-      inside = λ p i. within (referentAt (referentOf (l .pairs)) (sought t p)) (exactSum (address p) i);
+      inside = λ p i. within (pointerReferent t (referentOf (l .pairs)) p) (exactSum (address p) i);
     }
 
 -- the pairs without the one that starts at s

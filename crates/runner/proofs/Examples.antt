@@ -5,7 +5,7 @@ use mathlib.Core.Path.{_≡_, refl}
 use mathlib.Core.List.{List, [], _∷_}
 use lib.ListN.{replicate}
 use Rattle.heap.specs.Heaps.{heapOf}
-use Rattle.takes.specs.Examples.{worked}
+use Rattle.takes.proofs.Examples.{worked}
 use Rattle.runner.specs.TakeRuns.{RunOutcome, runOf, panelOf}
 use Rattle.runner.proofs.Computing.{carried}
 

@@ -1,5 +1,5 @@
--- Nothing of document 01: what contracts of inner functions say, of the state of a run, one record carried out on it, and many, and of the registers that
--- a record names. Those of `run` and `run_panel` cite `runOf` and `panelOf`.
+-- What the parts of a run's code say to each other: the state of a run, one record carried out on it, and many, and the registers that a record names.
+-- Document 01 has none of it: `run` and `run_panel` promise `runOf` and `panelOf`.
 use Prim.Native.Nat.{ℕ, _*_, _≤_}
 use mathlib.Core.Path.{_≡_}
 use mathlib.Core.Bool.{false, cond}

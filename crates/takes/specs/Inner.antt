@@ -1,5 +1,5 @@
 -- What the parts of the code say to each other: the operation table as numbers, and each operation's record straight from the bytes of its fields. Only the
--- contracts of inner functions cite these: no public contract rests on them, and document 01 has none of them.
+-- contracts of inner functions cite these: no customer's call rests on them, and document 01 has none of them.
 use Prim.Native.Nat.{ℕ, _+_, _*_}
 use mathlib.Core.Bool.{Bool, false, cond}
 use mathlib.Core.List.{List, [], _∷_, _++_}

@@ -138,7 +138,8 @@ fn declared<'a>(source: &Source<'a>) -> HashSet<&'a str> {
     if source.path.ends_with(".antt") {
         return declarations(source).iter().map(|declaration| declaration.name).collect();
     }
-    let mut names = HashSet::new();
+    let handed_on = source.imports.iter().filter(|import| import.handed_on);
+    let mut names: HashSet<&str> = handed_on.flat_map(|import| &import.names).map(|name| name.here).collect();
     for line in &source.lines {
         let mut words = line.code.split(|c: char| !c.is_alphanumeric() && c != '_');
         while let Some(word) = words.next() {
@@ -159,7 +160,7 @@ mod tests {
         let files = [
             ("crates.txt", "a:\nb: a\n"),
             ("crates/a/specs/Heaps.antt", "pub heap : A\nheap = 1\nrecord Part : Type 0 where\n  start : ℕ\n"),
-            ("crates/a/src/lib.rt", "pub fn read(x: u8) -> u8 {}\n"),
+            ("crates/a/src/lib.rt", "pub use inner::given;\npub fn read(x: u8) -> u8 {}\n"),
             ("crates/a/src/inner.rt", "const MOST: usize = 1;\nfn next() {}\n"),
             ("crates/a/must-fail/wrong.edit", ""),
             ("include/a.h", "int a_read(void);\n"),
@@ -173,7 +174,7 @@ mod tests {
     fn names_that_exist_pass() {
         let claims = [
             "`heap`, `Part` and `start` in `a/specs/Heaps`; `heap` (`a/specs`). Edit `a/wrong`",
-            "`a::read`, `a::inner::next`, `MOST` in `a/src/inner.rt`, `a/src`, `crates/CRATE/specs`, `crates.txt`",
+            "`a::read`, `a::given`, `a::inner::next`, `MOST` in `a/src/inner.rt`, `a/src`, `crates/CRATE/specs`, `crates.txt`",
             "`heap (f x)` has no `requires`; crate `b`, `a_read`, `docs/CLAIMS.md`",
         ];
         for claim in claims {

@@ -5,10 +5,10 @@ use std::collections::HashMap;
 
 /// Copies that must stand: `rt ci` gives a program the file beside its code, and follows no link. Document 01's worked
 /// take is `takerun`'s input and the first of the takes that are played.
-const COPIES: [[&str; 2]; 1] = [["crates/takerun/stdin", "crates/vectors/data/000.take"]];
+const COPIES: [[&str; 2]; 1] = [["crates/takerun/stdin", "crates/takes_test/data/000.take"]];
 
 /// The lists of calls that the program `calls` is given.
-const CALLS: &str = "crates/calls/stdin";
+const CALLS: &str = "crates/calls_test/stdin";
 
 pub fn stored_twice(repository: &Repository) -> Vec<Finding> {
     let copy = |path: &str| COPIES.iter().any(|[copy, _]| *copy == path);
@@ -53,9 +53,11 @@ fn a_second_copy_is_found() {
     let files = [(copy, "1"), (original, "1"), ("a", "2"), ("b", "3")];
     assert!(super::found(stored_twice, &files).is_empty());
     let files = [(copy, "1"), (original, "1"), ("a", "2"), ("b", "2"), ("examples/worked.take", "1")];
-    let expected =
-        ["b:1: it has the content of a", "examples/worked.take:1: it has the content of crates/vectors/data/000.take"];
+    let expected = [
+        "b:1: it has the content of a",
+        "examples/worked.take:1: it has the content of crates/takes_test/data/000.take",
+    ];
     assert_eq!(super::found(stored_twice, &files), expected);
-    let expected = ["crates/takerun/stdin:1: it has not the content of crates/vectors/data/000.take"];
+    let expected = ["crates/takerun/stdin:1: it has not the content of crates/takes_test/data/000.take"];
     assert_eq!(super::found(stored_twice, &[(copy, "1"), (original, "2")]), expected);
 }

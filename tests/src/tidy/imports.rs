@@ -10,7 +10,7 @@ pub fn unused(repository: &Repository) -> Vec<Finding> {
 fn unused_in(path: &str, text: &str) -> Vec<Finding> {
     let source = Source::new(path, text);
     let words = source.words();
-    let names = source.imports.iter().flat_map(|import| &import.names);
+    let names = source.imports.iter().filter(|import| !import.handed_on).flat_map(|import| &import.names);
     let unused = names.filter(|name| !is_used(name.here, |word| words.contains(word)));
     unused.map(|name| finding(path, name.line, format!("{} is imported and not used", name.here))).collect()
 }
@@ -37,9 +37,9 @@ mod tests {
 
     #[test]
     fn an_unused_import_of_rattle_is_found() {
-        let text = "use heap::Answer;\nuse heap::operations;\nuse common::wide;\nghost use lib.ListN.{length, drop};\n\
+        let text = "pub use reader::read;\nuse heap::Answer;\nuse heap::operations;\nuse common::wide;\nghost use lib.ListN.{length, drop};\n\
                     fn f(a: &[u8]) -> Answer\n    requires { ⌜ length (now a) ≡ 1 ⌝ }\n{ operations::GET } // wide, drop\n";
-        let expected = [(3, "wide"), (4, "drop")];
+        let expected = [(4, "wide"), (5, "drop")];
         let expected =
             expected.map(|(line, name)| format!("crates/a/src/lib.rt:{line}: {name} is imported and not used"));
         assert_eq!(names("crates/a/src/lib.rt", text), expected);

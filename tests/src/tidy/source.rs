@@ -20,6 +20,8 @@ pub struct Import<'a> {
     pub path: &'a str,
     pub names: Vec<Name<'a>>,
     pub whole: bool,
+    /// `pub use`: the names are handed on, and so are the file's own.
+    pub handed_on: bool,
 }
 
 /// A file of Rattle or antt.
@@ -73,9 +75,10 @@ fn code<'a>(line: &'a str, comment: &str) -> &'a str {
 fn imported(code: &str) -> Option<Import<'_>> {
     let code = code.trim_start();
     let code = code.strip_prefix("ghost ").unwrap_or(code);
+    let handed_on = code.starts_with("pub ");
     let code = code.strip_prefix("pub ").unwrap_or(code).strip_prefix("use ")?.trim_end_matches([';', ' ']);
     let path = code.split(['{', ' ']).next().unwrap_or(code);
-    Some(Import { path: path.trim_end_matches(['.', ':']), names: Vec::new(), whole: !code.contains('{') })
+    Some(Import { path: path.trim_end_matches(['.', ':']), names: Vec::new(), whole: !code.contains('{'), handed_on })
 }
 
 /// The import with the names of one of its lines.

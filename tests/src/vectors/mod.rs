@@ -63,13 +63,13 @@ pub fn stored() -> Vec<Stored> {
 fn of_programs() -> [Stored; 4] {
     let file = |path: &str| root().join("crates").join(path);
     let printed = Form::Printed { take: file("takerun/stdin") };
-    let played = Form::Played { folder: file("vectors/data") };
-    let answers = Form::Answers { calls: file("calls/stdin") };
+    let played = Form::Played { folder: file("takes_test/data") };
+    let answers = Form::Answers { calls: file("calls_test/stdin") };
     [
         Stored { path: file("takerun/stdout"), form: printed },
-        Stored { path: file("vectors/stdout"), form: played },
-        Stored { path: file("calls/stdin"), form: Form::Calls },
-        Stored { path: file("calls/stdout"), form: answers },
+        Stored { path: file("takes_test/stdout"), form: played },
+        Stored { path: file("calls_test/stdin"), form: Form::Calls },
+        Stored { path: file("calls_test/stdout"), form: answers },
     ]
 }
 

@@ -6,7 +6,7 @@ use mathlib.Core.List.{List}
 use mathlib.Core.Logic.{⊎-elim}
 use native.Mathlib.Omega.{arith}
 use borrow.Author.Needs.{needs}
-use Rattle.blocks.specs.Orders.{smallestOrder, largestOrder}
+use Rattle.blocks.specs.Orders.{smallestOrder}
 use Rattle.takes.specs.declared.Judgement.{Judgement}
 use Rattle.heap.specs.Views.{slotOrder}
 use Rattle.heap.specs.Heaps.{heapOf, wrongSizes}
@@ -52,9 +52,6 @@ module _ (c : tie.Else1) where
 
   low : smallestOrder ≤ found judged .size
   low = omega (arith, accepted-file (file judged) (good .judged) .head .low, good .size)
-
-  high : found judged .size ≤ largestOrder
-  high = omega (arith, accepted-file (file judged) (good .judged) .head .high, good .size)
 
 -- past the screen's
 module _ (c : tie.Joined2) where
