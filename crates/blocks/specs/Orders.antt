@@ -3,15 +3,15 @@ use Prim.Native.Nat.{ℕ, zero, suc, _-_, _^_}
 use mathlib.Core.Bool.{Bool, cond, _&&_}
 use lib.Dec.{leb, eqb}
 
--- the arena's orders
-abbrev pub smallestOrder : ℕ
-smallestOrder = 5
+-- the orders of the smallest and of the largest arena
+abbrev pub smallestArena : ℕ
+smallestArena = 5
 
-abbrev pub largestOrder : ℕ
-largestOrder = 16
+abbrev pub largestArena : ℕ
+largestArena = 16
 
 abbrev pub isArenaOrder : ℕ → Bool
-isArenaOrder m = leb smallestOrder m && leb m largestOrder
+isArenaOrder m = leb smallestArena m && leb m largestArena
 
 -- of the k orders from m on, the first whose power of two is n; 0 where there is none
 abbrev pub orderFrom : ℕ → ℕ → ℕ → ℕ
@@ -20,7 +20,7 @@ orderFrom n (suc k) m = let r = orderFrom n k (suc m) in cond (eqb n (2 ^ m)) m 
 
 -- the order m of an arena of n bytes; 0 where n is no such length
 unfoldable pub orderOf : ℕ → ℕ
-orderOf n = orderFrom n (suc largestOrder - smallestOrder) smallestOrder
+orderOf n = orderFrom n (suc largestArena - smallestArena) smallestArena
 
 -- of the orders from e on, the first with n at most its size; after k of them the next, whatever n
 abbrev pub neededFrom : ℕ → ℕ → ℕ → ℕ

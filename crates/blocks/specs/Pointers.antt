@@ -50,6 +50,11 @@ wrappedSum q i = (q + i) % 2 ^ 32
 unfoldable pub checkBits : ℕ → ℕ → ℕ → Bool
 checkBits e h r = eqb (bitXor h r / 2 ^ e) 0
 
+-- from an exact address; none passes from one below 0
+abbrev pub checkAt : ℕ → ℤ → ℕ → Bool
+checkAt e (pos h) r = checkBits e h r
+checkAt e (negsuc n) r = false
+
 -- an exact address lies in the block
 unfoldable pub within : Referent → ℤ → Bool
 within Missing z = false

@@ -22,9 +22,9 @@ pub const BASE: u32 = 65536;
 pub const MARK: u32 = 2147483648;
 
 // The smallest and the largest order of an arena, and the length of the smallest.
-pub const MIN_ORDER: u32 = 5;
+pub const SMALLEST_ARENA: u32 = 5;
 
-pub const MAX_ORDER: u32 = 16;
+pub const LARGEST_ARENA: u32 = 16;
 
 const MIN_LENGTH: usize = 32;
 
@@ -49,9 +49,9 @@ pub enum Place {
 pub fn order_of(len: usize) -> u32
     ensures { λ r. ⌜ r ≡ orderOf len ⌝ }
 {
-    let mut m = MIN_ORDER;
+    let mut m = SMALLEST_ARENA;
     let mut size = MIN_LENGTH;
-    while m <= MAX_ORDER {
+    while m <= LARGEST_ARENA {
         if len == size {
             return m;
         }

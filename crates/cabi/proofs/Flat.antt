@@ -4,14 +4,14 @@ use mathlib.Core.Path.{_≡_, sym, _∙_, ap}
 use mathlib.Core.List.{List}
 use mathlib.Core.Option.{none}
 use borrow.Author.Tests.{le-leb, lt-leb, ne-eqb}
-use Rattle.heap.specs.Operations.{lastOperation}
+use Rattle.heap.specs.OperationNumbers.{lastOperation}
 use Rattle.takes.specs.Reading.{Given, given}
 use Rattle.takes.specs.Writing.{WriteOutcome, writeRecord}
 use Rattle.takes.specs.declared.Record.{Record}
 use Rattle.takes.specs.declared.Record.the-variants.{Fill}
 use Rattle.takes.specs.declared.Reading.{Reading}
 use Rattle.takes.specs.declared.Reading.the-variants.{Found, Refused}
-use Rattle.cabi.specs.Flat.{flat, flatFound, placed, recordAs, recordFromFlat, unknown, writeFlat}
+use Rattle.cabi.specs.Flat.{flat, flatFound, flatReading, recordAs, recordFromFlat, unknown, writeFlat}
 use Rattle.cabi.specs.declared.FlatRecord.{FlatRecord}
 
 pub flat-is : {r s : Record} → r ≡ s → flat s ≡ flat r
@@ -40,14 +40,14 @@ module _ (f : FlatRecord) where
 
 module _ {g : Given} (reading : Reading) where
   pub found-is : (r : Record) (next : ℕ) (f : FlatRecord) → given reading ≡ g → reading ≡ Found r next → f ≡ flat r
-      → record { number = 0; item = f; next = next } ≡ placed g
+      → record { number = 0; item = f; next = next } ≡ flatReading g
   found-is r next f e q p =
-      ap (λ (x : FlatRecord). record { number = 0; item = x; next = next }) p ∙ sym (ap (λ (x : Reading). placed (given x)) q) ∙ ap placed e
+      ap (λ (x : FlatRecord). record { number = 0; item = x; next = next }) p ∙ sym (ap (λ (x : Reading). flatReading (given x)) q) ∙ ap flatReading e
 
   pub refused-is : (n : ℕ) (f : FlatRecord) → given reading ≡ g → reading ≡ Refused n → f ≡ flatFound none
-      → record { number = n; item = f; next = 0 } ≡ placed g
+      → record { number = n; item = f; next = 0 } ≡ flatReading g
   refused-is n f e q p =
-      ap (λ (x : FlatRecord). record { number = n; item = x; next = 0 }) p ∙ sym (ap (λ (x : Reading). placed (given x)) q) ∙ ap placed e
+      ap (λ (x : FlatRecord). record { number = n; item = x; next = 0 }) p ∙ sym (ap (λ (x : Reading). flatReading (given x)) q) ∙ ap flatReading e
 
 module _ (f : FlatRecord) (out : List ℕ) where
   pub below-is : f .operation < 1 → unknown out ≡ writeFlat f out

@@ -4,14 +4,14 @@ use mathlib.Core.Bool.{cond}
 use mathlib.Core.List.{List}
 use mathlib.Core.Option.{Option, none, some}
 use lib.Dec.{eqb}
-use Rattle.heap.specs.Operations.{isOperation}
+use Rattle.heap.specs.OperationNumbers.{isOperation}
 use Rattle.heap.specs.declared.Answer.{Answer}
 use Rattle.takes.specs.Reading.{Given}
 use Rattle.takes.specs.Writing.{WriteOutcome, writeRecord}
 use Rattle.takes.specs.declared.Record.{Record}
 use Rattle.takes.specs.declared.Record.the-variants.{Get, Give, Step, Read, Write, Left, Copy, Fill}
 use Rattle.cabi.specs.declared.FlatRecord.{FlatRecord}
-use Rattle.cabi.specs.declared.Place.{Place}
+use Rattle.cabi.specs.declared.FlatReading.{FlatReading}
 
 abbrev pub flatOf : (operation d a b byte word : ℕ) → FlatRecord
 flatOf o d a b y w = record { operation = o; d = d; a = a; b = b; byte = y; word = w }
@@ -32,8 +32,8 @@ abbrev pub flatFound : Option Record → FlatRecord
 flatFound none = flatOf 0 0 0 0 0 0
 flatFound (some r) = flat r
 
-abbrev pub placed : Given → Place
-placed g = record { number = g .number; item = flatFound (g .found); next = g .next }
+abbrev pub flatReading : Given → FlatReading
+flatReading g = record { number = g .number; item = flatFound (g .found); next = g .next }
 
 -- the record of an operation, whatever stands in the fields that it lacks
 abbrev pub recordAs : ℕ → FlatRecord → Record

@@ -16,7 +16,7 @@ ghost use Rattle.runner.specs.TakeRuns.{screenful, runOf, panelOf, ranTo};
 ghost use Rattle.takes.specs.Files.{recordsOf};
 ghost use Rattle.takes.specs.Reading.{readAt};
 ghost use Rattle.takes.specs.Writing.{writeHead};
-ghost use Rattle.cabi.specs.Flat.{flatOf, flat, placed, recordFromFlat, writeOutcomeBy, writeFlat};
+ghost use Rattle.cabi.specs.Flat.{flatOf, flat, flatReading, recordFromFlat, writeOutcomeBy, writeFlat};
 ghost use Rattle.cabi.specs.Parts.{partOf};
 
 // A part of the lent arena, by its offset: an exported function returns no reference.
@@ -40,7 +40,7 @@ pub struct FlatRecord {
 
 // What the reader gives: the record and the next place, or a number and all else 0.
 #[repr(C)]
-pub struct Place {
+pub struct FlatReading {
     pub number: u32,
     pub item: FlatRecord,
     pub next: usize,
@@ -212,17 +212,17 @@ fn flattened(r: Record) -> FlatRecord
 }
 
 #[no_mangle]
-pub extern "C" fn tulivombe_read_record(file: &[u8], at: usize) -> Place
-    ensures { λ r. ⌜ r ≡ placed (readAt (now (file .entry)) at) ⌝ }
+pub extern "C" fn tulivombe_read_record(file: &[u8], at: usize) -> FlatReading
+    ensures { λ r. ⌜ r ≡ flatReading (readAt (now (file .entry)) at) ⌝ }
 {
     let reading = takes::read(file, at);
     match reading {
-        Reading::Found(r, next) => Place {
+        Reading::Found(r, next) => FlatReading {
             number: 0,
             item: flattened(r),
             next,
         },
-        Reading::Refused(number) => Place {
+        Reading::Refused(number) => FlatReading {
             number,
             item: flat_record(0, 0, 0, 0, 0, 0),
             next: 0,

@@ -16,7 +16,7 @@ use Rattle.common.proofs.Refusals.{positive, clear, condOf, first-stays, number
 use Rattle.common.proofs.Booleans.{and-left, and-right, and-both, eqb-suc}
 use Rattle.blocks.proofs.Orders.{order-power}
 use Rattle.blocks.specs.Tables.{damagedBy}
-use Rattle.blocks.specs.Orders.{smallestOrder, largestOrder, isArenaOrder, orderOf}
+use Rattle.blocks.specs.Orders.{smallestArena, largestArena, isArenaOrder, orderOf}
 use Rattle.heap.specs.Views.{View, slotOrder}
 use Rattle.heap.specs.Rules.{argumentRules, stateRules, rules, addressRules}
 use Rattle.heap.specs.Effects.{value, stored, Outcome, settled}
@@ -77,8 +77,8 @@ module _ (t : ℕ) (a tab : List ℕ) where
       let x = not-false _ n in
       let y = and-left (isArenaOrder m) _ x in
       let z = and-right (isArenaOrder m) _ x in
-      let low = leb-true smallestOrder m (and-left _ _ y) in
-      let high = leb-true m largestOrder (and-right (leb smallestOrder m) _ y) in
+      let low = leb-true smallestArena m (and-left _ _ y) in
+      let high = leb-true m largestArena (and-right (leb smallestArena m) _ y) in
       let size = eqb-true _ _ (and-left _ _ z) in
       record {
         same = sym (ap orderOf size ∙ order-power m low high);
@@ -99,7 +99,7 @@ module _ (t : ℕ) (a tab : List ℕ) where
 
   pub sizes-right : {m : ℕ} → Sized m → wrongSizes t m (heapOf a tab) ≡ false
   sizes-right {m} s =
-      ap not (and-both (and-both (le-leb smallestOrder m (s .low)) (le-leb m largestOrder (s .high))) (and-both (eq-eqb _ _ (s .size)) (eq-eqb _ _ (s .slots))))
+      ap not (and-both (and-both (le-leb smallestArena m (s .low)) (le-leb m largestArena (s .high))) (and-both (eq-eqb _ _ (s .size)) (eq-eqb _ _ (s .slots))))
 
 -- a call that is refused by the number k
 pub refused-step : (t m : ℕ) (c : Call) (a tab : List ℕ) {k : ℕ} {r : Answer} → k ≡ first (rules c (heapView t m (heapOf a tab))) → (k ≡ 0 → ⊥)

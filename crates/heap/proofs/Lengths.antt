@@ -6,7 +6,7 @@ use mathlib.Core.List.{List}
 use native.Mathlib.Decide.{decLt}
 use native.Mathlib.Omega.{arith}
 use lib.ListN.{length}
-use Rattle.blocks.specs.Orders.{smallestOrder, orderOf}
+use Rattle.blocks.specs.Orders.{smallestArena, orderOf}
 use Rattle.blocks.proofs.Floors.{pow-quotient}
 use Rattle.blocks.proofs.Orders.{order-sound}
 use Rattle.heap.specs.Heaps.{heapOf, wrongSizes}
@@ -61,5 +61,5 @@ module _ (t m : ℕ) (a tab : List ℕ) {k : ℕ} (q : k ≡ heapOrder t a tab) 
           let right : wrongSizes t (orderOf (length a)) (heapOf a tab) ≡ false = rw (← s .same) e in
           absurd (n (q ∙ rw (right, ← s .same)))
 
-  pub order-this : k ≡ m → smallestOrder ≤ m → wrongSizes t m (heapOf a tab) ≡ false
+  pub order-this : k ≡ m → smallestArena ≤ m → wrongSizes t m (heapOf a tab) ≡ false
   order-this e l = sizes-right t a tab (subst (Sized t a tab) e (ordered q .sized (λ z. omega arith)))

@@ -9,11 +9,11 @@ use native.Mathlib.Decide.{decLt, decLe}
 use native.Mathlib.Omega.{arith}
 use borrow.Author.Tests.{lt-ltb, le-ltb, le-leb, lt-leb, ltb-true}
 use lib.Dec.{leb, ltb}
-use lib.IntN.{ℤ, pos, negsuc, natAbs}
+use lib.IntN.{ℤ, pos, negsuc}
 use lib.Pow.{pow-mono}
 use Rattle.common.specs.Refusals.{_when_, first}
 use Rattle.blocks.specs.Blocks.{floor}
-use Rattle.blocks.specs.Pointers.{markBit, marked, address, sought, referentAt, signed, exactSum, wrappedSum, checkBits, inReach}
+use Rattle.blocks.specs.Pointers.{markBit, marked, address, sought, referentAt, signed, exactSum, wrappedSum, checkBits, checkAt, inReach}
 use Rattle.blocks.specs.Inner.{fromZero}
 use Rattle.blocks.specs.Tables.{referentIn}
 use Rattle.blocks.specs.declared.Referent.{Referent}
@@ -117,9 +117,9 @@ module _ (t s e h q i r : ℕ) (k : Holding t s e h q) (sum : r ≡ wrappedSum q
     stepped-beyond l u = rw (p, reach-wrapped, outside (s - reach) s r l, outside (s + 2 ^ e) (s + 2 ^ e + reach) r u)
 
 -- a pointer with a referent is sought at an address from 0 up
-sought-exact : (f : ℕ → Referent) (x : ℤ) (s e : ℕ) → referentAt f x ≡ Found s e → natAbs x ≡ fromZero x
-sought-exact f (pos q) s e g = refl
-sought-exact f (negsuc n) s e g = let y : _≡_ {A = ℕ} 0 1 = cc in absurd (omega arith)
+sought-exact : (f : ℕ → Referent) (x : ℤ) (s e r : ℕ) → referentAt f x ≡ Found s e → checkAt e x r ≡ checkBits e (fromZero x) r
+sought-exact f (pos q) s e r g = refl
+sought-exact f (negsuc n) s e r g = let y : _≡_ {A = ℕ} 0 1 = cc in absurd (omega arith)
 
 -- the step of a pointer that has a referent
 module _ (t m : ℕ) (a tab : List ℕ) (p i s e : ℕ) (f : referentAt (referentIn t tab) (sought t p) ≡ Found s e) where
@@ -134,7 +134,7 @@ module _ (t m : ℕ) (a tab : List ℕ) (p i s e : ℕ) (f : referentAt (referen
 
   pub inside-is : w .inside p i ≡ passed
   unfolding insideByCheck
-  inside-is = rw (f, sought-exact (referentIn t tab) (sought t p) s e f)
+  inside-is = rw (f, sought-exact (referentIn t tab) (sought t p) s e (wrappedSum (address p) i) f)
 
 -- and is led there by no refusal
 module _ {t m : ℕ} {a tab : List ℕ} {p i s e : ℕ} (g : Ready t m (Step p i) a tab) (l : located (heapView t m (heapOf a tab)) p ≡ Inside s e) where

@@ -3,13 +3,12 @@ use Prim.Native.Nat.{ℕ, _-_, _/_, _^_}
 use mathlib.Core.Bool.{Bool, false, not, cond, _&&_}
 use mathlib.Core.List.{List, [], _∷_}
 use lib.Dec.{eqb}
-use lib.IntN.{natAbs}
 use lib.ListN.{length, take, drop, replicate}
 use Rattle.common.specs.Refusals.{_when_, first}
 use Rattle.common.specs.Bytes.{over}
 use Rattle.blocks.specs.Blocks.{base, orderIn}
 use Rattle.blocks.specs.Tables.{damagedBy, freeIn, referentIn}
-use Rattle.blocks.specs.Pointers.{sought, pointerReferent, address, wrappedSum, checkBits}
+use Rattle.blocks.specs.Pointers.{sought, pointerReferent, address, wrappedSum, checkAt}
 use Rattle.blocks.specs.Orders.{isArenaOrder, orderOf}
 use Rattle.blocks.specs.declared.Referent.{Referent}
 use Rattle.blocks.specs.declared.Referent.the-variants.{Missing, Found}
@@ -28,10 +27,10 @@ pub record Heap : Type 0 where
 abbrev pub heapOf : List ℕ → List ℕ → Heap
 heapOf a tab = record { arena = a; table = tab }
 
--- by the check: h, the address at which p's referent is sought, and the 32-bit sum lie in one block of the referent's order (a negative h has no referent)
+-- by the check: h, the address at which p's referent is sought, and the 32-bit sum lie in one block of the referent's order
 unfoldable pub insideByCheck : ℕ → Referent → ℕ → ℕ → Bool
 insideByCheck t Missing p i = false
-insideByCheck t (Found s e) p i = checkBits e (natAbs (sought t p)) (wrappedSum (address p) i)
+insideByCheck t (Found s e) p i = checkAt e (sought t p) (wrappedSum (address p) i)
 
 -- the lengths are not those of an arena of 2 ^ m bytes in slots of 2 ^ t, and its table
 abbrev pub wrongSizes : (t m : ℕ) → Heap → Bool

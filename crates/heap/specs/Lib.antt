@@ -5,6 +5,6 @@ pub mod Effects
 pub mod Heaps
 pub mod Inner
 pub mod Answers
-pub mod Operations
+pub mod OperationNumbers
 pub mod Registers
 pub mod Edges

@@ -17,10 +17,10 @@ registersAtFirst = replicate registerCount 0
 abbrev pub held : List ℕ → ℕ → ℕ
 held rs a = getD rs a 0
 
--- a value put in a register, or in none
-abbrev pub put : Option ℕ → ℕ → List ℕ → List ℕ
-put none v rs = rs
-put (some d) v rs = set rs d v
+-- a value put in the register that is named, if one is
+abbrev pub putWhere : Option ℕ → ℕ → List ℕ → List ℕ
+putWhere none v rs = rs
+putWhere (some d) v rs = set rs d v
 
 -- What putting one value into a lent set of registers returns and leaves: refused 7 where there is no register d, and nothing is changed.
 pub record Put : Type 0 where

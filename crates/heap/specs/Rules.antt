@@ -13,19 +13,19 @@ use Rattle.heap.specs.declared.Call.{Call}
 use Rattle.heap.specs.declared.Call.the-variants.{Get, Give, Step, Read, Write, Left, Copy, Fill}
 
 abbrev pub badWidth : ℕ → Bool
-badWidth w = not (eqb w 1 || (eqb w 2 || eqb w 4))
+badWidth k = not (eqb k 1 || (eqb k 2 || eqb k 4))
 
 -- of a pointer that must be plain
 abbrev pub plainRules : ℕ → List Refusal
 plainRules p = 13 when marked p ∷ []
 
--- By the arguments alone, in an arena of 2 ^ m bytes: n of a get, the width, v too large for its width, a marked pointer.
+-- By the arguments alone, in an arena of 2 ^ m bytes: n of a get, the width k, v too large for its width, a marked pointer.
 unfoldable pub argumentRules : ℕ → Call → List Refusal
 argumentRules m (Get n) = 10 when (eqb n 0 || ltb (2 ^ m) n) ∷ []
 argumentRules m (Give p) = plainRules p
 argumentRules m (Step p i) = []
-argumentRules m (Read p w) = 11 when badWidth w ∷ plainRules p
-argumentRules m (Write p w v) = 11 when badWidth w ∷ 12 when leb (256 ^ w) v ∷ plainRules p
+argumentRules m (Read p k) = 11 when badWidth k ∷ plainRules p
+argumentRules m (Write p k v) = 11 when badWidth k ∷ 12 when leb (256 ^ k) v ∷ plainRules p
 argumentRules m (Left p) = plainRules p
 argumentRules m (Copy p q n) = 13 when (marked p || marked q) ∷ []
 argumentRules m (Fill p v n) = plainRules p

@@ -7,16 +7,17 @@ use native.Mathlib.Omega.{arith}
 use lib.ListN.{getD}
 use borrow.Author.Tests.{ne-eqb, le-leb, lt-leb}
 use Rattle.common.specs.Bytes.{bigEndian}
-use Rattle.heap.specs.Operations.{lastOperation, isOperation}
+use Rattle.heap.specs.OperationNumbers.{lastOperation, isOperation}
 use Rattle.heap.specs.declared.Call.the-variants.{Fill}
-use Rattle.history.specs.Replaying.{callLength, callOf, callAt, callsFrom, unknownFrom}
+use Rattle.history.specs.Replaying.{callLength, callNamed, callAt, callsFrom, unknownFrom}
 
 module _ (s : List ℕ) (at a b c : ℕ) (x : a ≡ bigEndian s (at + 2) 4) (y : b ≡ bigEndian s (at + 6) 4) (z : c ≡ bigEndian s (at + 10) 4) where
-  pub call-is : (k : ℕ) → getD s at 0 ≡ k → callOf k (getD s (at + 1) 0) a b c ≡ callAt s at
+  pub call-is : (k : ℕ) → getD s at 0 ≡ k → callNamed k (getD s (at + 1) 0) a b c ≡ callAt s at
   unfolding callAt
   call-is k e = rw (x, y, z, e)
 
-pub fill-is : (k x a b c : ℕ) → (k ≡ 1 → ⊥) → (k ≡ 2 → ⊥) → (k ≡ 3 → ⊥) → (k ≡ 4 → ⊥) → (k ≡ 5 → ⊥) → (k ≡ 6 → ⊥) → (k ≡ 7 → ⊥) → Fill a x c ≡ callOf k x a b c
+pub fill-is : (k x a b c : ℕ) → (k ≡ 1 → ⊥) → (k ≡ 2 → ⊥) → (k ≡ 3 → ⊥) → (k ≡ 4 → ⊥) → (k ≡ 5 → ⊥) → (k ≡ 6 → ⊥) → (k ≡ 7 → ⊥)
+    → Fill a x c ≡ callNamed k x a b c
 fill-is k x a b c n1 n2 n3 n4 n5 n6 n7 = rw (ne-eqb k 1 n1, ne-eqb k 2 n2, ne-eqb k 3 n3, ne-eqb k 4 n4, ne-eqb k 5 n5, ne-eqb k 6 n6, ne-eqb k 7 n7)
 
 module _ (s : List ℕ) (n i : ℕ) (l : i < n) where

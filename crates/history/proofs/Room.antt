@@ -31,7 +31,7 @@ use Rattle.heap.specs.declared.Call.{Call}
 use Rattle.heap.specs.declared.Call.the-variants.{Get, Give, Step, Read, Write, Left, Copy, Fill}
 use Rattle.history.specs.Ledgers.{Ledger, ledgerView, ledgerStep, emptyLedger}
 use Rattle.history.specs.CallLists.{Run, run}
-use Rattle.history.specs.Histories.{liveBy, FreeRange, Starved, StarvedGet}
+use Rattle.history.specs.Histories.{liveBy, FreeByHistory, Starved, StarvedGet}
 use Rattle.common.proofs.Refusals.{not-given}
 use Rattle.heap.proofs.Settling.{settled-number}
 use Rattle.history.proofs.Agreement.{Proper, Orders}
@@ -68,7 +68,7 @@ module _ (t m : ℕ) (bs : List Block) where
 
 -- the block that an accepted get adds was free
 got-free : {t m : ℕ} → Orders t m → (l : Ledger) → Proper t m (l .pairs) → (n : ℕ) → first (rules (Get n) (ledgerView t m l)) ≡ 0
-    → FreeRange t m (l .pairs) (got t m l n)
+    → FreeByHistory t m (l .pairs) (got t m l n)
 got-free os l proper n e =
     let p = got-placed os l proper n e in
     record { aligned = p .aligned; unshared = λ b i q h k. false≢true (sym (missing-none (l .pairs) q (p .free q k) b i) ∙ h) }

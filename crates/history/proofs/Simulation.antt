@@ -13,7 +13,7 @@ use Rattle.common.specs.Refusals.{Refusal, first}
 use Rattle.blocks.specs.Blocks.{base, floor, Block, holds, Aligned, missing, orderIn}
 use Rattle.blocks.specs.Tables.{damagedBy, freeIn, referentIn}
 use Rattle.blocks.specs.Sets.{referentOf, tableOf}
-use Rattle.blocks.specs.Pointers.{markBit, marked, address, sought, referentAt, exactSum, wrappedSum, checkBits, within}
+use Rattle.blocks.specs.Pointers.{markBit, marked, address, sought, referentAt, exactSum, wrappedSum, checkAt, within}
 use Rattle.blocks.specs.declared.Referent.{Referent}
 use Rattle.blocks.specs.declared.Referent.the-variants.{Missing, Found}
 use Rattle.blocks.proofs.Floors.{floor-multiple, floor-base}
@@ -78,7 +78,7 @@ module _ {t m : ℕ} {bs : List Block} (os : Orders t m) (proper : Proper t m bs
           let fl : floor o h ≡ s =
           floor-base o h (omega (arith, os .high)) (omega arith)
           ∙ ap (λ (x : ℕ). base + x) (floor-multiple o (a .index) (h - base) (omega arith) (omega arith)) ∙ sym st in
-          ap (λ (x : ℕ). checkBits o x (wrappedSum (address p) i)) (ap natAbs e)
+          ap (λ (x : ℤ). checkAt o x (wrappedSum (address p) i)) e
           ∙ check-exact o h (address p) i (omega (arith, os .high)) (omega arith) (omega arith)
           ∙ ap (λ (x : ℕ). within (Found x o) (exactSum (address p) i)) fl
 

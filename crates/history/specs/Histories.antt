@@ -41,7 +41,7 @@ liveBy t m (c ∷ cs) [] = []
 liveBy t m (c ∷ cs) (x ∷ xs) = gotThen t m (changeOf c) x (givenIn (x .value) cs xs) (liveBy t m cs xs)
 
 -- a range of 2 ^ k bytes of the arena, aligned as a block is, is free by the history: it shares no byte with a live block
-pub record FreeRange (t m : ℕ) (live : List Block) (r : Block) : Type 0 where
+pub record FreeByHistory (t m : ℕ) (live : List Block) (r : Block) : Type 0 where
   pub aligned : Aligned t m r
   pub unshared : (b : Block) → List·Memᴰ b live → (q : ℕ) → holds b q ≡ true → holds r q ≡ true → ⊥
 
@@ -49,7 +49,7 @@ pub record FreeRange (t m : ℕ) (live : List Block) (r : Block) : Type 0 where
 pub record Starved (t m : ℕ) (live : List Block) (n : ℕ) : Type 0 where
   pub some : 1 ≤ n
   pub fits : n ≤ 2 ^ m
-  pub none : (r : Block) → FreeRange t m live r → neededOrder t m n ≤ r .order → ⊥
+  pub none : (r : Block) → FreeByHistory t m live r → neededOrder t m n ≤ r .order → ⊥
 
 -- the change is that of such a get
 abbrev pub StarvedGet : (t m : ℕ) → List Block → Change → Type 0

@@ -11,7 +11,7 @@ use Rattle.blocks.specs.Sets.{tableOf}
 use Rattle.heap.specs.Views.{slotOrder}
 use Rattle.heap.specs.Heaps.{Heap, heapOf, viewOf}
 use Rattle.heap.specs.Answers.{answerLength, answersBytes}
-use Rattle.heap.specs.Operations.{isOperation}
+use Rattle.heap.specs.OperationNumbers.{isOperation}
 use Rattle.heap.specs.declared.Call.{Call}
 use Rattle.heap.specs.declared.Call.the-variants.{Get, Give, Step, Read, Write, Left, Copy, Fill}
 use Rattle.history.specs.CallLists.{ledgerRun}
@@ -21,8 +21,8 @@ abbrev pub callLength : ℕ
 callLength = 14
 
 -- the call of one of the operations
-abbrev pub callOf : (op x a b c : ℕ) → Call
-callOf op x a b c =
+abbrev pub callNamed : (op x a b c : ℕ) → Call
+callNamed op x a b c =
     cond (eqb op 1) (Get a)
     (cond (eqb op 2) (Give a)
     (cond (eqb op 3) (Step a b)
@@ -32,7 +32,7 @@ callOf op x a b c =
     (cond (eqb op 7) (Copy a b c) (Fill a x c)))))))
 
 unfoldable pub callAt : List ℕ → ℕ → Call
-callAt s at = callOf (getD s at 0) (getD s (at + 1) 0) (bigEndian s (at + 2) 4) (bigEndian s (at + 6) 4) (bigEndian s (at + 10) 4)
+callAt s at = callNamed (getD s at 0) (getD s (at + 1) 0) (bigEndian s (at + 2) 4) (bigEndian s (at + 6) 4) (bigEndian s (at + 10) 4)
 
 -- k calls from `at` on
 unfoldable pub callsFrom : List ℕ → ℕ → ℕ → List Call

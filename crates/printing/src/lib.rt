@@ -1,5 +1,5 @@
 // What a program that runs takes prints: document 01's lines.
-use blocks::MAX_ORDER;
+use blocks::LARGEST_ARENA;
 use common::wide;
 use heap::SLOT_ORDER;
 use heap::answers::ANSWER_LENGTH;
@@ -10,7 +10,7 @@ use takes::LONGEST;
 ghost use mathlib.Core.Path.{_≡_};
 ghost use Prim.Native.Nat.{_+_, _*_, _^_, _≤_};
 ghost use lib.ListN.{length};
-ghost use Rattle.blocks.specs.Orders.{largestOrder};
+ghost use Rattle.blocks.specs.Orders.{largestArena};
 ghost use Rattle.takes.specs.Files.{sizeByte, fileNumber};
 ghost use Rattle.heap.specs.Heaps.{heapOf};
 ghost use Rattle.heap.specs.Answers.{answerLength};
@@ -59,14 +59,14 @@ fn print_answers(answers: &[u8], count: u32)
 
 // The arena's length by the file's size byte. A file that has no such byte is refused, whatever the length.
 fn size_for(file: &[u8]) -> usize
-    ensures { λ r. ⌜ r ≤ 2 ^ largestOrder ⌝ }
+    ensures { λ r. ⌜ r ≤ 2 ^ largestArena ⌝ }
     ensures { λ r. ⌜ (fileNumber (now (file .entry)) ≡ 0 → r ≡ 2 ^ sizeByte (now (file .entry))) ⌝ }
 {
     if file.len() < HEAD {
         return 0;
     }
     let m = wide(file[1]);
-    if MAX_ORDER < m {
+    if LARGEST_ARENA < m {
         return 0;
     }
     blocks::size_of(m) as usize

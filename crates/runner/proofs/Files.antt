@@ -9,7 +9,7 @@ use lib.ListN.{length}
 use Rattle.common.proofs.Refusals.{clear-number}
 use Rattle.takes.specs.Files.{walkFrom, headLength, headNumber, recordsNumber, fileNumber, recordsOf}
 use Rattle.takes.proofs.Walks.{from-spans}
-use Rattle.takes.proofs.Judging.{Head, head-accepted}
+use Rattle.takes.proofs.WholeFiles.{Head, head-accepted}
 use Rattle.runner.specs.TakeRuns.{mostRecords}
 
 pub record Accepted (file : List ℕ) : Type 0 where

@@ -26,7 +26,7 @@ use Rattle.heap.specs.declared.Answer.{Answer}
 use Rattle.heap.specs.declared.Call.{Call}
 use Rattle.heap.proofs.Judging.{sound-sized}
 use Rattle.heap.proofs.AnswerBytes.{answers-next, answers-none}
-use Rattle.heap.specs.Registers.{registerCount, put}
+use Rattle.heap.specs.Registers.{registerCount, putWhere}
 use Rattle.runner.specs.Decoding.{decoded, callOf, registersAfter}
 use Rattle.runner.specs.TakeRuns.{Carried, carryOut}
 use Rattle.runner.specs.Inner.{State, stateOf, oneRecord, allRecords, noRegister, indexOf, operandsOf, storedIn}
@@ -60,7 +60,7 @@ low-registers (fill d a v n) h = (low-field (kindsOf 8) (fields (fill d a v n)) 
 put-none : (rs : List ℕ) (v : ℕ) → length rs ≡ registerCount → set rs noRegister v ≡ rs
 put-none rs v l = set-out rs noRegister v (omega arith)
 
-put-index : (o : Option ℕ) (v : ℕ) (rs : List ℕ) → length rs ≡ registerCount → set rs (indexOf o) v ≡ put o v rs
+put-index : (o : Option ℕ) (v : ℕ) (rs : List ℕ) → length rs ≡ registerCount → set rs (indexOf o) v ≡ putWhere o v rs
 put-index none v rs l = put-none rs v l
 put-index (some d) v rs l = refl
 
@@ -68,7 +68,7 @@ pub stored-in : (r : Record) (x : Answer) (rs : List ℕ) → length rs ≡ regi
 unfolding registersAfter
 stored-in r x rs l = go (eqb (x .number) 0)
   where
-    go : (b : Bool) → set rs (cond b (operandsOf r .d) noRegister) (x .value) ≡ cond b (put (decoded r .d) (x .value) rs) rs
+    go : (b : Bool) → set rs (cond b (operandsOf r .d) noRegister) (x .value) ≡ cond b (putWhere (decoded r .d) (x .value) rs) rs
     go true = put-index (decoded r .d) (x .value) rs l
     go false = put-none rs (x .value) l
 

@@ -10,7 +10,7 @@ use Rattle.takes.specs.declared.Record.the-variants.{Write as write, Left as le
 use Rattle.heap.specs.declared.Answer.{Answer}
 use Rattle.heap.specs.declared.Call.{Call}
 use Rattle.heap.specs.declared.Call.the-variants.{Get, Give, Step, Read, Write, Left, Copy, Fill}
-use Rattle.heap.specs.Registers.{held, put}
+use Rattle.heap.specs.Registers.{held, putWhere}
 
 -- What a record asks for: its registers a and b, 0 where it has none, its call with their values p and q, and the register d that its value goes to.
 pub record Decoded : Type 0 where
@@ -35,4 +35,4 @@ callOf rs r = decoded r .call (held rs (decoded r .a)) (held rs (decoded r .b))
 
 -- the registers after a record: the value in d, if the call was not refused
 unfoldable pub registersAfter : Record → Answer → List ℕ → List ℕ
-registersAfter r x rs = cond (eqb (x .number) 0) (put (decoded r .d) (x .value) rs) rs
+registersAfter r x rs = cond (eqb (x .number) 0) (putWhere (decoded r .d) (x .value) rs) rs

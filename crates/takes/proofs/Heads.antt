@@ -5,7 +5,7 @@ use mathlib.Core.List.{List, [], _∷_}
 use native.Mathlib.Omega.{arith}
 use lib.ListN.{length, getD, drop, set}
 use borrow.Author.Tests.{lt-ltb, le-ltb, le-leb, lt-leb, eq-eqb, ne-eqb}
-use Rattle.blocks.specs.Orders.{smallestOrder, largestOrder}
+use Rattle.blocks.specs.Orders.{smallestArena, largestArena}
 use Rattle.takes.specs.Files.{headLength, longest, headNumber}
 use Rattle.takes.specs.Writing.{writeHead}
 
@@ -25,42 +25,42 @@ module _ (s : List ℕ) where
       no-size h = rw (ne-eqb (length s) 0 some, eq-eqb (getD s 0 0) 1 one, lt-ltb (length s) headLength h)
 
       module _ (sized : headLength ≤ length s) where
-        pub small : getD s 1 0 < smallestOrder → 2 ≡ headNumber s
+        pub small : getD s 1 0 < smallestArena → 2 ≡ headNumber s
         unfolding headNumber
-        small h = rw (ne-eqb (length s) 0 some, eq-eqb (getD s 0 0) 1 one, le-ltb (length s) headLength sized, lt-leb smallestOrder (getD s 1 0) h)
+        small h = rw (ne-eqb (length s) 0 some, eq-eqb (getD s 0 0) 1 one, le-ltb (length s) headLength sized, lt-leb smallestArena (getD s 1 0) h)
 
-        pub large : smallestOrder ≤ getD s 1 0 → largestOrder < getD s 1 0 → 2 ≡ headNumber s
+        pub large : smallestArena ≤ getD s 1 0 → largestArena < getD s 1 0 → 2 ≡ headNumber s
         unfolding headNumber
         large l h =
             rw (
               ne-eqb (length s) 0 some,
               eq-eqb (getD s 0 0) 1 one,
               le-ltb (length s) headLength sized,
-              le-leb smallestOrder (getD s 1 0) l,
-              lt-leb (getD s 1 0) largestOrder h,
+              le-leb smallestArena (getD s 1 0) l,
+              lt-leb (getD s 1 0) largestArena h,
             )
 
-        pub long : smallestOrder ≤ getD s 1 0 → getD s 1 0 ≤ largestOrder → longest < length s → 3 ≡ headNumber s
+        pub long : smallestArena ≤ getD s 1 0 → getD s 1 0 ≤ largestArena → longest < length s → 3 ≡ headNumber s
         unfolding headNumber
         long l h k =
             rw (
               ne-eqb (length s) 0 some,
               eq-eqb (getD s 0 0) 1 one,
               le-ltb (length s) headLength sized,
-              le-leb smallestOrder (getD s 1 0) l,
-              le-leb (getD s 1 0) largestOrder h,
+              le-leb smallestArena (getD s 1 0) l,
+              le-leb (getD s 1 0) largestArena h,
               lt-ltb longest (length s) k,
             )
 
-        pub good : smallestOrder ≤ getD s 1 0 → getD s 1 0 ≤ largestOrder → length s ≤ longest → 0 ≡ headNumber s
+        pub good : smallestArena ≤ getD s 1 0 → getD s 1 0 ≤ largestArena → length s ≤ longest → 0 ≡ headNumber s
         unfolding headNumber
         good l h k =
             rw (
               ne-eqb (length s) 0 some,
               eq-eqb (getD s 0 0) 1 one,
               le-ltb (length s) headLength sized,
-              le-leb smallestOrder (getD s 1 0) l,
-              le-leb (getD s 1 0) largestOrder h,
+              le-leb smallestArena (getD s 1 0) l,
+              le-leb (getD s 1 0) largestArena h,
               le-ltb longest (length s) k,
             )
 
@@ -70,19 +70,19 @@ two-set (x ∷ []) a b h = absurd (omega arith)
 two-set (x ∷ y ∷ out) a b h = refl
 
 module _ (m : ℕ) (out : List ℕ) where
-  pub small-m : m < smallestOrder → record { number = 2; count = 0; slice = out } ≡ writeHead m out
+  pub small-m : m < smallestArena → record { number = 2; count = 0; slice = out } ≡ writeHead m out
   unfolding writeHead
-  small-m h = rw (lt-leb smallestOrder m h)
+  small-m h = rw (lt-leb smallestArena m h)
 
-  module _ (low : smallestOrder ≤ m) where
-    pub large-m : largestOrder < m → record { number = 2; count = 0; slice = out } ≡ writeHead m out
+  module _ (low : smallestArena ≤ m) where
+    pub large-m : largestArena < m → record { number = 2; count = 0; slice = out } ≡ writeHead m out
     unfolding writeHead
-    large-m h = rw (le-leb smallestOrder m low, lt-leb m largestOrder h)
+    large-m h = rw (le-leb smallestArena m low, lt-leb m largestArena h)
 
-    pub no-room : m ≤ largestOrder → length out < headLength → record { number = 9; count = 0; slice = out } ≡ writeHead m out
+    pub no-room : m ≤ largestArena → length out < headLength → record { number = 9; count = 0; slice = out } ≡ writeHead m out
     unfolding writeHead
-    no-room l h = rw (le-leb smallestOrder m low, le-leb m largestOrder l, lt-ltb (length out) headLength h)
+    no-room l h = rw (le-leb smallestArena m low, le-leb m largestArena l, lt-ltb (length out) headLength h)
 
-    pub head-stored : m ≤ largestOrder → headLength ≤ length out → record { number = 0; count = headLength; slice = set (set out 0 1) 1 m } ≡ writeHead m out
+    pub head-stored : m ≤ largestArena → headLength ≤ length out → record { number = 0; count = headLength; slice = set (set out 0 1) 1 m } ≡ writeHead m out
     unfolding writeHead
-    head-stored l h = rw (le-leb smallestOrder m low, le-leb m largestOrder l, le-ltb (length out) headLength h, two-set out 1 m h)
+    head-stored l h = rw (le-leb smallestArena m low, le-leb m largestArena l, le-ltb (length out) headLength h, two-set out 1 m h)

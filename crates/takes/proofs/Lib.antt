@@ -7,7 +7,7 @@ mod Heads
 mod Records
 pub mod Readings
 pub mod Walks
-pub mod Judging
+pub mod WholeFiles
 pub mod RoundTrips
 mod Rewriting
 pub mod Examples

@@ -7,8 +7,9 @@ use native.Mathlib.Omega.{arith}
 use native.Mathlib.Nat.{le-of-suc-le-suc, not-suc-le-zero}
 use lib.Dec.{eqb, leb, ltb}
 use lib.ListN.{length, getD}
-use borrow.Author.Tests.{eqb-true, ltb-true, leb-true}
+use borrow.Author.Tests.{eqb-true, ltb-true, ltb-false, leb-true, le-leb, lt-leb}
 use Rattle.common.proofs.Booleans.{and-left, and-right}
+use Rattle.heap.specs.OperationNumbers.{lastOperation, isOperation}
 use Rattle.takes.specs.Operations.{Row, _has_, operations, knownIn, known, kindsOf, sizes, lengthOf}
 use Rattle.takes.specs.Inner.{rows, columns, digits, rowOf}
 
@@ -77,6 +78,30 @@ rows-past op h = go (known op) refl
     go : (b : Bool) → known op ≡ b → 0 ≡ cond b (lengthOf op + 256 * digits (kindsOf op)) 0
     go true e = absurd (omega (arith, in-table op e))
     go false e = refl
+
+-- the operations of the table are those that number the calls
+pub known-numbers : (op : ℕ) → known op ≡ isOperation op
+unfolding known
+known-numbers op = go (ltb op rows) refl
+  where
+    bit : Bool → ℕ
+    bit b = cond b 1 0
+
+    same : (b d : Bool) → bit b ≡ bit d → b ≡ d
+    same true true e = refl
+    same true false e = absurd (omega arith)
+    same false true e = absurd (omega arith)
+    same false false e = refl
+
+    past : rows ≤ op → (b : Bool) → known op ≡ b → b ≡ isOperation op
+    past h true e = absurd (omega (arith, in-table op e .below))
+    past h false e = rw (le-leb 1 op (omega arith), lt-leb op lastOperation (omega arith))
+
+    go : (b : Bool) → ltb op rows ≡ b → known op ≡ isOperation op
+    go true e =
+        let l = ltb-true op rows e in
+        same (known op) (isOperation op) (sym (tabulated-at (λ k. bit (known k)) rows op l) ∙ tabulated-at (λ k. bit (isOperation k)) rows op l)
+    go false e = past (ltb-false op rows e) (known op) refl
 
 -- What a row says: it is 0 where the table has no such operation, else the length byte and the kinds.
 module _ (op row : ℕ) (is : row ≡ rowOf op) where

@@ -20,7 +20,7 @@ use Rattle.takes.proofs.Numbers.{bytes-drop}
 use Rattle.takes.proofs.Heads.{two-set, head-stored}
 use Rattle.takes.proofs.Readings.{Whole, theRecord, span}
 use Rattle.takes.proofs.Walks.{Next}
-use Rattle.takes.proofs.Judging.{Head, head-accepted, head-bytes, file-accepted}
+use Rattle.takes.proofs.WholeFiles.{Head, head-accepted, head-bytes, file-accepted}
 use Rattle.takes.proofs.RoundTrips.{read-back, read-low}
 
 -- what the judgement says

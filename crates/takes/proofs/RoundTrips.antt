@@ -24,7 +24,7 @@ use Rattle.takes.proofs.Numbers.{bytes-drop}
 use Rattle.takes.proofs.Heads.{good}
 use Rattle.takes.proofs.Readings.{Whole, theRecord}
 use Rattle.takes.proofs.Walks.{nextPlace, whole-inside, from-end, from-found, accepted-whole}
-use Rattle.takes.proofs.Judging.{Head, head-accepted, head-bytes, file-accepted, number-is}
+use Rattle.takes.proofs.WholeFiles.{Head, head-accepted, head-bytes, file-accepted, number-is}
 
 -- a record is made again from its parts
 remade : (r : Record) → (recordOf (operation r) (fields r) ≡ r) × (length (fields r) ≡ length (kindsOf (operation r)))

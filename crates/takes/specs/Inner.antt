@@ -6,7 +6,7 @@ use mathlib.Core.List.{List, [], _∷_, _++_}
 use lib.Dec.{eqb, leb}
 use lib.ListN.{getD, take, replicate}
 use Rattle.common.specs.Bytes.{bigEndian}
-use Rattle.heap.specs.Operations.{lastOperation}
+use Rattle.heap.specs.OperationNumbers.{lastOperation}
 use Rattle.heap.specs.Registers.{registerCount}
 use Rattle.takes.specs.Operations.{Kind, register, byte, word, known, kindsOf, lengthOf}
 use Rattle.takes.specs.declared.Record.{Record}

@@ -6,7 +6,7 @@ use lib.ListN.{length, getD}
 use Rattle.heap.specs.Registers.{registerCount}
 use Rattle.takes.specs.Operations.{Kind, register, byte, word, kindsOf}
 use Rattle.takes.specs.Records.{operation, fields}
-use Rattle.blocks.specs.Orders.{smallestOrder, largestOrder}
+use Rattle.blocks.specs.Orders.{smallestArena, largestArena}
 use Rattle.takes.specs.Files.{longest, sizeByte, fileNumber, recordsOf}
 use Rattle.takes.specs.Writing.{fileOf}
 use Rattle.takes.specs.declared.Record.{Record}
@@ -39,5 +39,5 @@ pub record ReadsBack (m : ℕ) (rs : List Record) : Type 0 where
 
 -- both round trips of document 01's takes
 pub record RoundTrips : Type 0 where
-  pub written-reads-back : (m : ℕ) (rs : List Record) → smallestOrder ≤ m → m ≤ largestOrder → RecordsFit rs → length (fileOf m rs) ≤ longest → ReadsBack m rs
+  pub written-reads-back : (m : ℕ) (rs : List Record) → smallestArena ≤ m → m ≤ largestArena → RecordsFit rs → length (fileOf m rs) ≤ longest → ReadsBack m rs
   pub read-writes-back : (file : List ℕ) → Bytes file → fileNumber file ≡ 0 → fileOf (sizeByte file) (recordsOf file) ≡ file

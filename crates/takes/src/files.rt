@@ -4,8 +4,8 @@ use crate::Judgement;
 use crate::LONGEST;
 use crate::reader::refusal;
 use crate::unchecked;
-use blocks::MAX_ORDER;
-use blocks::MIN_ORDER;
+use blocks::LARGEST_ARENA;
+use blocks::SMALLEST_ARENA;
 use common::wide;
 ghost use mathlib.Core.Path.{_≡_};
 ghost use Rattle.takes.specs.Files.{headNumber, judgement};
@@ -24,10 +24,10 @@ fn judge_head(file: &[u8]) -> u32
         return 2;
     }
     let size = wide(file[1]);
-    if size < MIN_ORDER {
+    if size < SMALLEST_ARENA {
         return 2;
     }
-    if MAX_ORDER < size {
+    if LARGEST_ARENA < size {
         return 2;
     }
     if LONGEST < file.len() {

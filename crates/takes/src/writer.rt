@@ -7,8 +7,8 @@ use crate::table::is_high;
 use crate::table::row_of;
 use crate::table::size_of;
 use crate::unchecked;
-use blocks::MAX_ORDER;
-use blocks::MIN_ORDER;
+use blocks::LARGEST_ARENA;
+use blocks::SMALLEST_ARENA;
 ghost use mathlib.Core.Path.{_≡_};
 ghost use Prim.Native.Nat.{_+_, _≤_};
 ghost use mathlib.Core.Bool.{true};
@@ -24,44 +24,44 @@ ghost use Rattle.takes.specs.Writing.{writeOutcome, writeHead, writeReco
 const FIELDS: usize = 4;
 
 // A record's operation and the values of its fields, 0 where it has no further one.
-struct Parts {
+struct FieldValues {
     op: u8,
     values: [u32; FIELDS],
 }
 
-fn parts_of(r: Record) -> Parts
+fn values_of(r: Record) -> FieldValues
     ensures { λ p. ⌜ (p .op ≡ operation r) × (p .values ≡ padded (fields r)) ⌝ }
 {
     match r {
-        Record::Get(d, n) => Parts {
+        Record::Get(d, n) => FieldValues {
             op: 1,
             values: [d as u32, n, 0, 0],
         },
-        Record::Give(a) => Parts {
+        Record::Give(a) => FieldValues {
             op: 2,
             values: [a as u32, 0, 0, 0],
         },
-        Record::Step(d, a, i) => Parts {
+        Record::Step(d, a, i) => FieldValues {
             op: 3,
             values: [d as u32, a as u32, i, 0],
         },
-        Record::Read(d, a, w) => Parts {
+        Record::Read(d, a, w) => FieldValues {
             op: 4,
             values: [d as u32, a as u32, w as u32, 0],
         },
-        Record::Write(a, w, v) => Parts {
+        Record::Write(a, w, v) => FieldValues {
             op: 5,
             values: [a as u32, w as u32, v, 0],
         },
-        Record::Left(d, a) => Parts {
+        Record::Left(d, a) => FieldValues {
             op: 6,
             values: [d as u32, a as u32, 0, 0],
         },
-        Record::Copy(d, a, b, n) => Parts {
+        Record::Copy(d, a, b, n) => FieldValues {
             op: 7,
             values: [d as u32, a as u32, b as u32, n],
         },
-        Record::Fill(d, a, v, n) => Parts {
+        Record::Fill(d, a, v, n) => FieldValues {
             op: 8,
             values: [d as u32, a as u32, v as u32, n],
         },
@@ -69,7 +69,7 @@ fn parts_of(r: Record) -> Parts
 }
 
 // Whether a record to be written has a register past the last.
-fn high_in_parts(p: Parts, kinds: u32) -> bool
+fn high_in_values(p: FieldValues, kinds: u32) -> bool
     requires { ⌜ (known (p .op) ≡ true) × (length (p .values) ≡ columns) ⌝ }
     requires { ⌜ kinds ≡ digits (kindsOf (p .op)) ⌝ }
     ensures { λ r. ⌜ r ≡ highRegister (kindsOf (p .op)) (p .values) ⌝ }
@@ -88,7 +88,7 @@ fn high_in_parts(p: Parts, kinds: u32) -> bool
 }
 
 // Stores the fields of a record, behind its length byte and its operation.
-fn put_fields(out: &mut [u8], p: Parts, kinds: u32)
+fn put_fields(out: &mut [u8], p: FieldValues, kinds: u32)
     requires { ⌜ (known (p .op) ≡ true) × (length (p .values) ≡ columns) ⌝ }
     requires { ⌜ kinds ≡ digits (kindsOf (p .op)) ⌝ }
     requires { ⌜ 2 + sizes (kindsOf (p .op)) ≤ length (now out) ⌝ }
@@ -111,13 +111,13 @@ fn put_fields(out: &mut [u8], p: Parts, kinds: u32)
 pub fn write_head(out: &mut [u8], m: u32) -> Written
     ensures { λ r. ⌜ writeOutcome r (now (out .exit)) ≡ writeHead m (now (out .entry)) ⌝ }
 {
-    if m < MIN_ORDER {
+    if m < SMALLEST_ARENA {
         return Written {
             number: 2,
             count: 0,
         };
     }
-    if MAX_ORDER < m {
+    if LARGEST_ARENA < m {
         return Written {
             number: 2,
             count: 0,
@@ -141,11 +141,11 @@ pub fn write_head(out: &mut [u8], m: u32) -> Written
 pub fn write_record(out: &mut [u8], r: Record) -> Written
     ensures { λ w. ⌜ writeOutcome w (now (out .exit)) ≡ writeRecord r (now (out .entry)) ⌝ }
 {
-    let p = parts_of(r);
+    let p = values_of(r);
     let op = p.op;
     let row = row_of(op);
     let kinds = row / 256;
-    if high_in_parts(p, kinds) {
+    if high_in_values(p, kinds) {
         return Written {
             number: 7,
             count: 0,

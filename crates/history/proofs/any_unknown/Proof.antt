@@ -6,7 +6,7 @@ use mathlib.Core.Path.{_≡_, sym, _∙_}
 use native.Mathlib.Omega.{arith}
 use borrow.Author.Tests.{ltb-true, ltb-false}
 use native.Mathlib.Nat.{sub-zero}
-use Rattle.heap.specs.Operations.{lastOperation}
+use Rattle.heap.specs.OperationNumbers.{lastOperation}
 use Rattle.history.specs.Replaying.{callLength, unknownFrom}
 use Rattle.history.proofs.Encoding.{unknown-below, unknown-above, known-here, none-unknown}
 use Rattle.history.proofs.any_unknown.Statement.{statement}

@@ -3,7 +3,7 @@
 use Prim.Native.Nat.{ℕ, _+_}
 use mathlib.Core.Path.{_≡_, refl, _∙_}
 use lib.ListN.{getD}
-use Rattle.history.specs.Replaying.{callOf, callAt}
+use Rattle.history.specs.Replaying.{callNamed, callAt}
 use Rattle.history.proofs.Encoding.{call-is, fill-is}
 use borrow.Author.Needs.{needs}
 use Rattle.history.proofs.call_at.Statement.{statement}
@@ -42,7 +42,7 @@ module _ (c : tie.After-read-number3) where
   s = c .before .before .before .before .before .before
 
   read : (k : ℕ) → getD (s .args .s .now) (s .args .at) 0 ≡ k
-      → callOf k (getD (s .args .s .now) (s .args .at + 1) 0)
+      → callNamed k (getD (s .args .s .now) (s .args .at + 1) 0)
       (c .before .before .read-number .result) (c .before .read-number2 .result) (c .read-number3 .result)
       ≡ callAt (s .args .s .now) (s .args .at)
   read = call-is _ _ _ _ _ (c .before .before .read-number .ensures) (c .before .read-number2 .ensures) (c .read-number3 .ensures)

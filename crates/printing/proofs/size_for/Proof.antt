@@ -6,7 +6,7 @@ use native.Mathlib.Omega.{arith}
 use lib.ListN.{length}
 use lib.Pow.{pow-mono}
 use borrow.Author.Needs.{needs}
-use Rattle.blocks.specs.Orders.{largestOrder}
+use Rattle.blocks.specs.Orders.{largestArena}
 use Rattle.takes.specs.Files.{headLength, sizeByte, fileNumber}
 use Rattle.runner.proofs.Files.{accepted-file}
 use Rattle.printing.proofs.size_for.Statement.{statement}
@@ -16,7 +16,7 @@ use Rattle.printing.proofs.size_for.Tie as tie
 no-size : (file : List ℕ) (r : ℕ) → length file < headLength → fileNumber file ≡ 0 → r ≡ 2 ^ sizeByte file
 no-size file r h z = absurd (omega (arith, accepted-file file z .head .both))
 
-high-size : (file : List ℕ) (r : ℕ) → largestOrder < sizeByte file → fileNumber file ≡ 0 → r ≡ 2 ^ sizeByte file
+high-size : (file : List ℕ) (r : ℕ) → largestArena < sizeByte file → fileNumber file ≡ 0 → r ≡ 2 ^ sizeByte file
 high-size file r h z = absurd (omega (arith, accepted-file file z .head .high))
 
 returns : tie.Need-returns
@@ -48,8 +48,8 @@ cast-result c = search needs
 returns-3 : tie.Need-returns-3
 returns-3 c =
     let k = c .before .before in
-    let l : k .wide .result ≤ largestOrder = omega (arith, c .before .if2 .left) in
-    let h : 2 ^ k .wide .result ≤ 2 ^ largestOrder = pow-mono l in
+    let l : k .wide .result ≤ largestArena = omega (arith, c .before .if2 .left) in
+    let h : 2 ^ k .wide .result ≤ 2 ^ largestArena = pow-mono l in
     (omega (arith, c .size-of .ensures, h), λ z. c .size-of .ensures ∙ ap (λ (m : ℕ). 2 ^ m) (size k))
 
 pub size-for-spec : {M : Type 1} → statement M

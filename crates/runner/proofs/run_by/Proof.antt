@@ -6,7 +6,7 @@ use mathlib.Core.List.{List}
 use mathlib.Core.Logic.{⊎-elim}
 use native.Mathlib.Omega.{arith}
 use borrow.Author.Needs.{needs}
-use Rattle.blocks.specs.Orders.{smallestOrder}
+use Rattle.blocks.specs.Orders.{smallestArena}
 use Rattle.takes.specs.declared.Judgement.{Judgement}
 use Rattle.heap.specs.Views.{slotOrder}
 use Rattle.heap.specs.Heaps.{heapOf, wrongSizes}
@@ -50,7 +50,7 @@ module _ (c : tie.Else1) where
   good : Judged (file judged) (found judged)
   good = judge-accepted (file judged) (found judged) (judged .judge .ensures) (c .if1 .left)
 
-  low : smallestOrder ≤ found judged .size
+  low : smallestArena ≤ found judged .size
   low = omega (arith, accepted-file (file judged) (good .judged) .head .low, good .size)
 
 -- past the screen's

@@ -10,7 +10,7 @@ use Rattle.takes.specs.Reading.{readAt}
 use Rattle.takes.specs.Files.{headNumber}
 use Rattle.takes.proofs.Readings.{theRecord}
 use Rattle.takes.proofs.Walks.{Next, next-judged}
-use Rattle.takes.proofs.Judging.{Judging, Head, head-accepted, judged-head, judging-start, judging-turn, judging-stop, judging-end}
+use Rattle.takes.proofs.WholeFiles.{Judging, Head, head-accepted, judged-head, judging-start, judging-turn, judging-stop, judging-end}
 use Rattle.takes.proofs.files.judge.Statement.{statement}
 use Rattle.takes.proofs.files.judge.Tie as tie
 

@@ -5,7 +5,7 @@ use mathlib.Core.Path.{_≡_, sym, _∙_, ap}
 use mathlib.Core.List.{List}
 use native.Mathlib.Omega.{arith}
 use lib.ListN.{length}
-use Rattle.heap.specs.Operations.{lastOperation}
+use Rattle.heap.specs.OperationNumbers.{lastOperation}
 use Rattle.takes.specs.Operations.{kindsOf, sizes}
 use Rattle.takes.specs.Inner.{rows, getAt, giveAt, stepAt, readFieldsAt, writeAt, leftAt, copyAt, fillAt}
 use Rattle.takes.specs.declared.Record.{Record}

@@ -10,7 +10,7 @@ use Rattle.takes.specs.Reading.{readAt}
 use Rattle.takes.specs.Files.{headLength, sizeByte, fileNumber}
 use Rattle.takes.specs.RoundTrips.{Bytes}
 use Rattle.takes.proofs.Walks.{Next, found-next, accepted-here}
-use Rattle.takes.proofs.Judging.{Head, head-accepted, file-accepted}
+use Rattle.takes.proofs.WholeFiles.{Head, head-accepted, file-accepted}
 use Rattle.takes.proofs.Rewriting.{Rewriting, number-judged, size-judged, rewriting-start, rewriting-turn, rewriting-end}
 use Rattle.takes.proofs.Rewriting.{rewrite-refused, rewrite-short}
 use Rattle.takes.proofs.writer.rewrite.Statement.{statement}

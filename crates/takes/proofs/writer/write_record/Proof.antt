@@ -15,15 +15,15 @@ use Rattle.takes.proofs.Records.{part-known, part-columns, write-high, 
 use Rattle.takes.proofs.writer.write_record.Statement.{statement}
 use Rattle.takes.proofs.writer.write_record.Tie as tie
 
-parts-of-requires : tie.Need-parts-of-requires
-parts-of-requires c κs = search needs
+values-of-requires : tie.Need-values-of-requires
+values-of-requires c κs = search needs
 
 row-of-requires : tie.Need-row-of-requires
 row-of-requires c κs = search needs
 
 -- the record taken apart, and its row
 module _ (c : tie.After-row-of) where
-  abbrev parts : tie.After-parts-of
+  abbrev parts : tie.After-values-of
   parts = c .before
 
   abbrev start : tie.Start
@@ -33,16 +33,16 @@ module _ (c : tie.After-row-of) where
   lent = start .args .out .now
 
   abbrev op : ℕ
-  op = parts .parts-of .result .op
+  op = parts .values-of .result .op
 
   abbrev vs : List ℕ
-  vs = parts .parts-of .result .values
+  vs = parts .values-of .result .values
 
   known-op : known op ≡ true
-  known-op = part-known (start .args .r) lent op vs (parts .parts-of .ensures)
+  known-op = part-known (start .args .r) lent op vs (parts .values-of .ensures)
 
   all-columns : length vs ≡ columns
-  all-columns = part-columns (start .args .r) lent op vs (parts .parts-of .ensures)
+  all-columns = part-columns (start .args .r) lent op vs (parts .values-of .ensures)
 
   length-is : c .row-of .result % 256 ≡ lengthOf op
   length-is = row-length op (c .row-of .result) (c .row-of .ensures) known-op
@@ -50,14 +50,14 @@ module _ (c : tie.After-row-of) where
   kinds-are : c .row-of .result / 256 ≡ digits (kindsOf op)
   kinds-are = row-kinds op (c .row-of .result) (c .row-of .ensures) known-op
 
-high-in-parts-requires : tie.Need-high-in-parts-requires
-high-in-parts-requires c κs = ((known-op c, all-columns c), kinds-are c)
+high-in-values-requires : tie.Need-high-in-values-requires
+high-in-values-requires c κs = ((known-op c, all-columns c), kinds-are c)
 
 returns : tie.Need-returns
 returns c =
     let h = c .before in
     let p = h .before in
-    write-high (start p .args .r) (lent p) (op p) (vs p) (parts p .parts-of .ensures) (sym (c .if1 .taken) ∙ h .high-in-parts .ensures)
+    write-high (start p .args .r) (lent p) (op p) (vs p) (parts p .values-of .ensures) (sym (c .if1 .taken) ∙ h .high-in-values .ensures)
 
 -- no register is high
 module _ (c : tie.Else1) where
@@ -65,7 +65,7 @@ module _ (c : tie.Else1) where
   row = c .before .before
 
   low : false ≡ highRegister (kindsOf (op row)) (vs row)
-  low = sym (c .if1 .left) ∙ c .before .high-in-parts .ensures
+  low = sym (c .if1 .left) ∙ c .before .high-in-values .ensures
 
 add-count : tie.Need-add-count
 add-count c = search needs
@@ -77,7 +77,7 @@ returns-2 : tie.Need-returns-2
 returns-2 c =
     let e = c .before in
     let p = row e in
-    write-short (start p .args .r) (lent p) (op p) (vs p) (parts p .parts-of .ensures) (low e) (omega (arith, length-is p))
+    write-short (start p .args .r) (lent p) (op p) (vs p) (parts p .values-of .ensures) (low e) (omega (arith, length-is p))
 
 cast-out : tie.Need-cast-out
 cast-out c = search needs
@@ -101,16 +101,16 @@ returns-3 c =
     let f = c .before .before in
     let e = f .before .before .before in
     let p = row e in
-    write-done (start p .args .r) (lent p) (op p) (vs p) (parts p .parts-of .ensures) (low e) (p .row-of .result % 256) (f .put-fields .last .0)
+    write-done (start p .args .r) (lent p) (op p) (vs p) (parts p .values-of .ensures) (low e) (p .row-of .result % 256) (f .put-fields .last .0)
     (length-is p) (omega arith) (f .put-fields .ensures)
 
 pub write-record-spec : {M : Type 1} → statement M
 write-record-spec =
     tie.close
     (tie.spec
-    parts-of-requires
+    values-of-requires
     row-of-requires
-    high-in-parts-requires
+    high-in-values-requires
     returns
     add-count
     cast-if2

@@ -9,8 +9,8 @@ use Rattle.takes.specs.Reading.{highRegister}
 use Rattle.takes.specs.Inner.{columns}
 use Rattle.takes.proofs.Operations.{in-table}
 use Rattle.takes.proofs.Rows.{Seeking, seeking-column, seeking-stop, seeking-turn, seeking-end}
-use Rattle.takes.proofs.writer.high_in_parts.Statement.{statement}
-use Rattle.takes.proofs.writer.high_in_parts.Tie as tie
+use Rattle.takes.proofs.writer.high_in_values.Statement.{statement}
+use Rattle.takes.proofs.writer.high_in_values.Tie as tie
 
 abbrev Inv-loop : tie.InvT-loop
 Inv-loop kinds p left₀ k₀ left k = Seeking (p .values) (highRegister (kindsOf (p .op)) (p .values)) left k
@@ -56,8 +56,8 @@ loop-again c = let t = c .before .before .before in seeking-turn (t .before .loo
 returns-2 : tie.Need-returns-2 Inv-loop μ-loop
 returns-2 c = seeking-end (c .before .loop .inv) (c .loop-test .left)
 
-pub high-in-parts-spec : {M : Type 1} → statement M
-high-in-parts-spec =
+pub high-in-values-spec : {M : Type 1} → statement M
+high-in-values-spec =
     tie.close
     (tie.spec
     Inv-loop

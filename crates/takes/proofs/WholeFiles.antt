@@ -8,7 +8,7 @@ use lib.Dec.{eqb, leb, ltb}
 use lib.ListN.{length, getD, take}
 use borrow.Author.Tests.{ltb-false, leb-true, eqb-true, ne-eqb, not-false}
 use Rattle.takes.specs.Reading.{recordRefused, readAt}
-use Rattle.blocks.specs.Orders.{smallestOrder, largestOrder, isArenaOrder}
+use Rattle.blocks.specs.Orders.{smallestArena, largestArena, isArenaOrder}
 use Rattle.takes.specs.Files.{Walk, ended, walkFrom, headLength, longest, sizeByte}
 use Rattle.takes.specs.Files.{headNumber, recordsNumber, fileNumber, recordsOf, judgement}
 use Rattle.takes.specs.Writing.{headBytes}
@@ -21,8 +21,8 @@ use Rattle.takes.proofs.Walks.{Next, from-end, from-refused}
 pub record Head (s : List ℕ) : Type 0 where
   pub first-byte : getD s 0 0 ≡ 1
   pub both : headLength ≤ length s
-  pub low : smallestOrder ≤ sizeByte s
-  pub high : sizeByte s ≤ largestOrder
+  pub low : smallestArena ≤ sizeByte s
+  pub high : sizeByte s ≤ largestArena
   pub short : length s ≤ longest
 
 abbrev test-1 : List ℕ → Bool
@@ -44,8 +44,8 @@ head-accepted s h =
     record {
       first-byte = eqb-true (getD s 0 0) 1 (not-false (eqb (getD s 0 0) 1) first-fine);
       both = ltb-false (length s) headLength (or-false-left (ltb (length s) headLength) _ (b .0));
-      low = leb-true smallestOrder m (and-left (leb smallestOrder m) (leb m largestOrder) sized);
-      high = leb-true m largestOrder (and-right (leb smallestOrder m) (leb m largestOrder) sized);
+      low = leb-true smallestArena m (and-left (leb smallestArena m) (leb m largestArena) sized);
+      high = leb-true m largestArena (and-right (leb smallestArena m) (leb m largestArena) sized);
       short = ltb-false longest (length s) (d .0);
     }
 

@@ -1,12 +1,12 @@
 -- Each arm is given that the record is its variant, so what it builds are the record's parts (`taken-apart`). That a byte fits 32 bits is searched.
 use borrow.Author.Needs.{needs}
 use Rattle.takes.proofs.Records.{taken-apart}
-use Rattle.takes.proofs.writer.parts_of.Statement.{statement}
-use Rattle.takes.proofs.writer.parts_of.Tie as tie
+use Rattle.takes.proofs.writer.values_of.Statement.{statement}
+use Rattle.takes.proofs.writer.values_of.Tie as tie
 
 -- arm by arm: that the variant is known, then the casts of its bytes; and last what each arm returns
-pub parts-of-spec : {M : Type 1} → statement M
-parts-of-spec =
+pub values-of-spec : {M : Type 1} → statement M
+values-of-spec =
     tie.close
     (tie.spec
     (search needs) (search needs)
