@@ -9,6 +9,7 @@
  *   - the pointer is not null and its n bytes can be read (and written, where it is not const);
  *   - no two buffers of one call overlap, where one of them is not const;
  *   - no other thread writes them during the call.
+ * The same holds of lent registers, a pointer to one struct.
  *
  * Pointers. A pointer into the heap is a number: the arena's first byte has the address 65536. With the
  * top bit set (TULIVOMBE_MARK) it is marked: it lies up to 8 bytes outside its block, and only
@@ -75,6 +76,11 @@ typedef struct {
     uint32_t offset;
     uint32_t length;
 } tulivombe_part;
+
+/* Registers of the caller's own, laid out as those of a run's result. */
+typedef struct {
+    uint32_t values[TULIVOMBE_REGISTERS];
+} tulivombe_registers;
 
 /* A run's result. Refused, registers and count are 0. */
 typedef struct {
@@ -162,6 +168,10 @@ tulivombe_ran tulivombe_run(const uint8_t *file, size_t file_len, uint8_t *arena
  * Refused: 1 to 7, 26, 8, 9, and then nothing is changed. */
 tulivombe_ran tulivombe_run_panel(const uint8_t *file, size_t file_len, uint8_t *arena, size_t arena_len,
                                   uint8_t *table, size_t table_len, uint8_t *answers, size_t answers_len);
+
+/* Puts v in register d of lent registers, and changes no other. Refused: 7, and then nothing is changed. Returns
+ * the number. */
+uint32_t tulivombe_put_register(tulivombe_registers *registers, uint8_t d, uint32_t v);
 
 /* Makes a list of calls on a heap that it first makes fresh, and stores TULIVOMBE_ANSWER_LENGTH bytes a call in
  * `out`, as a run does; its bytes past them stay. A call is TULIVOMBE_CALL_LENGTH bytes: the operation as in a

@@ -15,6 +15,7 @@ int main(void)
     SIZE(tulivombe_part);
     OFFSET(tulivombe_part, offset);
     OFFSET(tulivombe_part, length);
+    SIZE(tulivombe_registers);
     SIZE(tulivombe_ran);
     OFFSET(tulivombe_ran, registers);
     OFFSET(tulivombe_ran, count);

@@ -26,6 +26,13 @@ pub struct FlatPlace {
     pub next: usize,
 }
 
+/// Registers as C lends them.
+#[derive(Clone, Copy, Debug, PartialEq, Eq)]
+#[repr(C)]
+pub struct Registers {
+    pub values: [u32; 16],
+}
+
 #[rustfmt::skip]
 unsafe extern "C" {
     fn tulivombe_fresh(arena: *mut u8, arena_len: usize, table: *mut u8, table_len: usize) -> Answer;
@@ -41,6 +48,7 @@ unsafe extern "C" {
     fn tulivombe_show(arena: *const u8, arena_len: usize, table: *const u8, table_len: usize, p: u32) -> Part;
     fn tulivombe_run(file: *const u8, file_len: usize, arena: *mut u8, arena_len: usize, table: *mut u8, table_len: usize, answers: *mut u8, answers_len: usize) -> Ran;
     fn tulivombe_run_panel(file: *const u8, file_len: usize, arena: *mut u8, arena_len: usize, table: *mut u8, table_len: usize, answers: *mut u8, answers_len: usize) -> Ran;
+    fn tulivombe_put_register(registers: *mut Registers, d: u8, v: u32) -> u32;
     fn tulivombe_replay(arena: *mut u8, arena_len: usize, table: *mut u8, table_len: usize, calls: *const u8, calls_len: usize, out: *mut u8, out_len: usize) -> u32;
     fn tulivombe_read_record(file: *const u8, file_len: usize, at: usize) -> FlatPlace;
     fn tulivombe_write_head(out: *mut u8, out_len: usize, m: u32) -> Answer;
@@ -146,6 +154,11 @@ impl Subject for Library {
 /// Stores a record as C gives it, whatever its operation.
 pub fn write_flat(out: &mut [u8], record: FlatRecord) -> Answer {
     unsafe { tulivombe_write_record(out.as_mut_ptr(), out.len(), record) }
+}
+
+/// Puts `v` in register `d`, whatever byte that is.
+pub fn put_register(registers: &mut Registers, d: u8, v: u32) -> u32 {
+    unsafe { tulivombe_put_register(registers, d, v) }
 }
 
 fn flat(record: Record) -> FlatRecord {

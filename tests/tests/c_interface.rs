@@ -1,5 +1,5 @@
-//! The header from C and C++ with all warnings on, its types and the panel's numbers against the Rust declarations, and
-//! the C example.
+//! The header from C and C++ with all warnings on, its types and the panel's numbers against the Rust declarations, puts
+//! into registers, and the C example.
 
 use std::process::Command;
 use tulivombe_tests::vectors::root;
@@ -38,7 +38,7 @@ mod library {
     use super::*;
     use std::mem::{offset_of, size_of};
     use std::path::Path;
-    use tulivombe_tests::library::{write_flat, FlatPlace, FlatRecord};
+    use tulivombe_tests::library::{put_register, write_flat, FlatPlace, FlatRecord, Registers};
     use tulivombe_tests::plain::runner::SCREENFUL;
     use tulivombe_tests::plain::Refusal;
     use tulivombe_tests::subject::{Answer, Part, Ran};
@@ -63,6 +63,7 @@ mod library {
             ("part", size_of::<Part>()),
             ("part.offset", offset_of!(Part, offset)),
             ("part.length", offset_of!(Part, length)),
+            ("registers", size_of::<Registers>()),
             ("ran", size_of::<Ran>()),
             ("ran.registers", offset_of!(Ran, registers)),
             ("ran.count", offset_of!(Ran, count)),
@@ -87,6 +88,42 @@ mod library {
         let expected = std::fs::read_to_string(root().join("examples/device.stdout")).expect("the stored output");
         assert_eq!(program("examples/device.c", "c"), expected);
         assert_eq!(program("examples/device.c", "c++"), expected);
+    }
+
+    /// The number and the registers after a put.
+    fn put_by_hand(registers: [u32; 16], d: u8, v: u32) -> (u32, [u32; 16]) {
+        if d > 15 {
+            return (7, registers);
+        }
+        let mut after = registers;
+        after[usize::from(d)] = v;
+        (0, after)
+    }
+
+    /// The registers that are lent are the first 16 of 256 numbers, so no byte leads out of what is compared.
+    #[test]
+    fn put_changes_its_register_alone() {
+        let before: [u32; 16] = std::array::from_fn(|k| 0x0101_0101 * (k as u32 + 1));
+        for d in 0..=255 {
+            for v in [0, 1, 0x0102_0304, 0x8000_0000, u32::MAX] {
+                let mut lent = [Registers { values: before }; 16];
+                let number = put_register(&mut lent[0], d, v);
+                assert_eq!((number, lent[0].values), put_by_hand(before, d, v), "{v} in register {d}");
+                assert_eq!(lent[1..], [Registers { values: before }; 15], "{v} in register {d}");
+            }
+        }
+    }
+
+    #[test]
+    fn puts_from_c_are_alike() {
+        let before = std::array::from_fn(|k| k as u32 + 1);
+        let line = |d: u8| {
+            let (number, registers) = put_by_hand(before, d, 4_000_000_000 - u32::from(d));
+            registers.iter().fold(format!("{number}:"), |line, value| format!("{line} {value}")) + "\n"
+        };
+        let lines: String = (0..=255).map(line).collect();
+        assert_eq!(program("tests/c/registers.c", "c"), lines);
+        assert_eq!(program("tests/c/registers.c", "c++"), lines);
     }
 
     #[test]

@@ -1,8 +1,9 @@
-// The C interface: the heap's calls, both runs, replay, reader and writer under one prefix, with structs by value and slices as pointer and length. What C sees
-// of it stands in include/tulivombe.h.
+// The C interface: the heap's calls, both runs, a put into registers, replay, reader and writer under one prefix, with structs by value and slices as pointer
+// and length. What C sees of it stands in include/tulivombe.h.
 use blocks::BASE;
 use heap::Answer;
 use heap::operations;
+use heap::registers::Registers;
 use runner::Ran;
 use takes::Reading;
 use takes::Record;
@@ -10,6 +11,7 @@ ghost use mathlib.Core.Path.{_≡_};
 ghost use Prim.Native.Nat.{_≤_};
 ghost use lib.ListN.{length};
 ghost use Rattle.heap.specs.Heaps.{heapOf, outcome, heapCall, heapFresh, heapCheck};
+ghost use Rattle.heap.specs.Registers.{putTo, putIn};
 ghost use Rattle.heap.specs.declared.Call.the-variants.{Get, Give, Step, Read, Write, Left, Copy, Fill};
 ghost use Rattle.history.specs.Replaying.{replayed, replayOf};
 ghost use Rattle.runner.specs.TakeRuns.{screenful, runOf, panelOf, ranTo};
@@ -167,6 +169,14 @@ pub extern "C" fn tulivombe_run_panel(
         ≡ runOf (now (file .entry)) (heapOf (now (arena .entry)) (now (table .entry))) (now (answers .entry))) ⌝ }
 {
     runner::run_panel(file, arena, table, answers)
+}
+
+// The one exported function that is lent a struct.
+#[no_mangle]
+pub extern "C" fn tulivombe_put_register(registers: &mut Registers, d: u8, v: u32) -> u32
+    ensures { λ r. ⌜ putTo r (now (registers .exit) .values) ≡ putIn d v (now (registers .entry) .values) ⌝ }
+{
+    heap::registers::put(registers, d, v)
 }
 
 #[no_mangle]
