@@ -65,7 +65,7 @@ static size_t write_take(uint8_t *file, size_t room)
 
 static void run_take(const uint8_t *file, size_t length)
 {
-    uint8_t answers[5 * 7];
+    uint8_t answers[TULIVOMBE_ANSWER_LENGTH * (sizeof records / sizeof records[0])];
     tulivombe_ran ran =
         tulivombe_run(file, length, arena, sizeof arena, table, sizeof table, answers, sizeof answers);
     size_t at = 2;
@@ -73,7 +73,7 @@ static void run_take(const uint8_t *file, size_t length)
     printf("take of %u bytes: number %u, %u records, register 2 holds %u\n", (unsigned)length,
            (unsigned)ran.number, (unsigned)ran.count, (unsigned)ran.registers[2]);
     for (uint32_t k = 0; k < ran.count; k++) {
-        const uint8_t *b = answers + 5 * k;
+        const uint8_t *b = answers + TULIVOMBE_ANSWER_LENGTH * k;
         tulivombe_place place = tulivombe_read_record(file, length, at);
         uint32_t value = (uint32_t)b[1] << 24 | (uint32_t)b[2] << 16 | (uint32_t)b[3] << 8 | b[4];
         printf("%u: operation %u, next record at %u: %u %u\n", (unsigned)k, (unsigned)place.record.operation,
@@ -94,11 +94,12 @@ static void replay_calls(void)
         6, 0, 0, 1, 0, 60, 0, 0, 0, 0, 0, 0, 0, 0, /* left 65596 */
         2, 0, 0, 1, 0, 1, 0, 0, 0, 0, 0, 0, 0, 0,  /* give 65537 */
     };
-    uint8_t out[15];
+    uint8_t out[sizeof calls / TULIVOMBE_CALL_LENGTH * TULIVOMBE_ANSWER_LENGTH];
     uint32_t number =
         tulivombe_replay(arena, sizeof arena, table, sizeof table, calls, sizeof calls, out, sizeof out);
-    printf("replay %u: numbers %u %u %u, left %u\n", (unsigned)number, (unsigned)out[0], (unsigned)out[5],
-           (unsigned)out[10], (unsigned)out[9]);
+    printf("replay %u: numbers %u %u %u, left %u\n", (unsigned)number, (unsigned)out[0],
+           (unsigned)out[TULIVOMBE_ANSWER_LENGTH], (unsigned)out[2 * TULIVOMBE_ANSWER_LENGTH],
+           (unsigned)out[2 * TULIVOMBE_ANSWER_LENGTH - 1]);
 }
 
 int main(void)

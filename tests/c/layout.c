@@ -1,4 +1,4 @@
-/* Prints sizes and offsets of the header's types, and the front panel's numbers, for the Rust tests to compare with their own. */
+/* Prints sizes and offsets of the header's types, for the Rust tests to compare with their own. */
 
 #include <stdio.h>
 
@@ -6,7 +6,6 @@
 
 #define SIZE(type) printf(#type " %u\n", (unsigned)sizeof(type))
 #define OFFSET(type, field) printf(#type "." #field " %u\n", (unsigned)offsetof(type, field))
-#define NUMBER(name) printf(#name " %u\n", (unsigned)(TULIVOMBE_##name))
 
 int main(void)
 {
@@ -28,7 +27,5 @@ int main(void)
     SIZE(tulivombe_place);
     OFFSET(tulivombe_place, record);
     OFFSET(tulivombe_place, next);
-    NUMBER(SCREENFUL);
-    NUMBER(TOO_MANY_RECORDS);
     return 0;
 }

@@ -1,7 +1,10 @@
-//! The header from C and C++ with all warnings on, its types and the panel's numbers against the Rust declarations, puts
-//! into registers, and the C example.
+//! The header from C and C++ with all warnings on, its numbers and types against the Rust declarations, puts into
+//! registers, and the C example.
 
+use std::path::Path;
 use std::process::Command;
+use tulivombe_tests::plain::runner::{self, SCREENFUL};
+use tulivombe_tests::plain::{replay, takes, Refusal};
 use tulivombe_tests::vectors::root;
 
 const WARNINGS: [&str; 4] = ["-Wall", "-Wextra", "-Wpedantic", "-Werror"];
@@ -20,6 +23,18 @@ fn compiler(name: &str) -> Command {
     command
 }
 
+/// Compiles a program as C or C++, links the libraries, and gives what it prints.
+fn program(source: &str, language: &str, libraries: &[&str]) -> String {
+    let (name, standard) = if language == "c" { ("cc", "-std=c99") } else { ("c++", "-std=c++11") };
+    let source = root().join(source);
+    let stem = source.file_stem().expect("a source has a name").to_string_lossy();
+    let binary = Path::new(env!("CARGO_TARGET_TMPDIR")).join(format!("{stem}-{language}"));
+    let mut command = compiler(name);
+    command.args([standard, "-O2", "-x", language]).arg(&source).args(["-x", "none"]);
+    run(command.args(libraries).arg("-o").arg(&binary));
+    run(&mut Command::new(&binary))
+}
+
 #[test]
 fn header_compiles_as_c_and_cpp() {
     let header = root().join("include/tulivombe.h");
@@ -33,30 +48,34 @@ fn header_compiles_as_c_and_cpp() {
     }
 }
 
+#[test]
+fn numbers_are_alike() {
+    let expected = [
+        ("SCREENFUL", SCREENFUL),
+        ("LONGEST_FILE", takes::LONGEST),
+        ("ANSWER_LENGTH", runner::ANSWER),
+        ("CALL_LENGTH", replay::CALL),
+        ("TOO_MANY_RECORDS", Refusal::TooManyRecords.number() as usize),
+    ];
+    let lines: String = expected.iter().map(|(name, number)| format!("{name} {number}\n")).collect();
+    assert_eq!(program("tests/c/numbers.c", "c", &[]), lines);
+    assert_eq!(program("tests/c/numbers.c", "c++", &[]), lines);
+}
+
 #[cfg(feature = "library")]
 mod library {
     use super::*;
     use std::mem::{offset_of, size_of};
-    use std::path::Path;
     use tulivombe_tests::library::{put_register, write_flat, FlatPlace, FlatRecord, Registers};
-    use tulivombe_tests::plain::runner::SCREENFUL;
-    use tulivombe_tests::plain::Refusal;
     use tulivombe_tests::subject::{Answer, Part, Ran};
 
-    /// Compiles a program as C or C++, links the library, and gives what it prints.
-    fn program(source: &str, language: &str) -> String {
-        let (name, standard) = if language == "c" { ("cc", "-std=c99") } else { ("c++", "-std=c++11") };
-        let source = root().join(source);
-        let stem = source.file_stem().expect("a source has a name").to_string_lossy();
-        let binary = Path::new(env!("CARGO_TARGET_TMPDIR")).join(format!("{stem}-{language}"));
-        let mut command = compiler(name);
-        command.args([standard, "-O2", "-x", language]).arg(&source).args(["-x", "none"]);
-        run(command.arg(env!("TULIVOMBE_LIBRARY")).arg("-o").arg(&binary));
-        run(&mut Command::new(&binary))
+    /// A program linked with the library.
+    fn linked(source: &str, language: &str) -> String {
+        program(source, language, &[env!("TULIVOMBE_LIBRARY")])
     }
 
     #[test]
-    fn types_and_numbers_are_alike() {
+    fn types_are_alike() {
         let expected = [
             ("answer", size_of::<Answer>()),
             ("answer.value", offset_of!(Answer, value)),
@@ -77,17 +96,16 @@ mod library {
             ("place.record", offset_of!(FlatPlace, record)),
             ("place.next", offset_of!(FlatPlace, next)),
         ];
-        let types: String = expected.iter().map(|(name, number)| format!("tulivombe_{name} {number}\n")).collect();
-        let lines = types + &format!("SCREENFUL {SCREENFUL}\nTOO_MANY_RECORDS {}\n", Refusal::TooManyRecords.number());
-        assert_eq!(program("tests/c/layout.c", "c"), lines);
-        assert_eq!(program("tests/c/layout.c", "c++"), lines);
+        let lines: String = expected.iter().map(|(name, number)| format!("tulivombe_{name} {number}\n")).collect();
+        assert_eq!(linked("tests/c/layout.c", "c"), lines);
+        assert_eq!(linked("tests/c/layout.c", "c++"), lines);
     }
 
     #[test]
     fn example_prints_what_is_stored() {
         let expected = std::fs::read_to_string(root().join("examples/device.stdout")).expect("the stored output");
-        assert_eq!(program("examples/device.c", "c"), expected);
-        assert_eq!(program("examples/device.c", "c++"), expected);
+        assert_eq!(linked("examples/device.c", "c"), expected);
+        assert_eq!(linked("examples/device.c", "c++"), expected);
     }
 
     /// The number and the registers after a put.
@@ -122,8 +140,8 @@ mod library {
             registers.iter().fold(format!("{number}:"), |line, value| format!("{line} {value}")) + "\n"
         };
         let lines: String = (0..=255).map(line).collect();
-        assert_eq!(program("tests/c/registers.c", "c"), lines);
-        assert_eq!(program("tests/c/registers.c", "c++"), lines);
+        assert_eq!(linked("tests/c/registers.c", "c"), lines);
+        assert_eq!(linked("tests/c/registers.c", "c++"), lines);
     }
 
     #[test]

@@ -1,9 +1,11 @@
 //! A list of calls as bytes, 14 each, replayed on a fresh heap.
 
 use super::heap;
+use super::runner::ANSWER;
 use super::Refusal::{self, *};
 
-const CALL: usize = 14;
+/// The bytes of a call.
+pub const CALL: usize = 14;
 
 /// Makes the calls and stores their answers (refused 4, 5, 8, 9).
 pub fn replay(arena: &mut [u8], table: &mut [u8], calls: &[u8], out: &mut [u8]) -> Result<(), Refusal> {
@@ -16,12 +18,12 @@ pub fn replay(arena: &mut [u8], table: &mut [u8], calls: &[u8], out: &mut [u8]) 
     if !heap::lengths_fit(arena, table) {
         return Err(Lengths);
     }
-    if out.len() < calls.len() / CALL * 5 {
+    if out.len() < calls.len() / CALL * ANSWER {
         return Err(Room);
     }
     arena.fill(0);
     table.fill(0);
-    for (call, answer) in calls.chunks_exact(CALL).zip(out.chunks_exact_mut(5)) {
+    for (call, answer) in calls.chunks_exact(CALL).zip(out.chunks_exact_mut(ANSWER)) {
         let (number, value) = match make(call, arena, table) {
             Ok(value) => (0, value),
             Err(refusal) => (refusal.number() as u8, 0),

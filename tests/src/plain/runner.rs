@@ -16,6 +16,9 @@ pub struct Finished {
 /// How many records the front panel's screen can list.
 pub const SCREENFUL: usize = 64;
 
+/// The bytes of an answer: number, then value big-endian.
+pub const ANSWER: usize = 5;
+
 /// Judges the file and the buffers (1 to 9), makes the heap fresh and carries out each record.
 pub fn run(file: &[u8], arena: &mut [u8], table: &mut [u8], answers: &mut [u8]) -> Result<Finished, Refusal> {
     run_up_to(usize::MAX, file, arena, table, answers)
@@ -40,14 +43,14 @@ fn run_up_to(
     if arena.len() != 1 << m || table.len() != arena.len() / 16 {
         return Err(Lengths);
     }
-    if answers.len() < 5 * count {
+    if answers.len() < ANSWER * count {
         return Err(Room);
     }
     arena.fill(0);
     table.fill(0);
     let mut registers = [0; REGISTERS];
     let mut at = 2;
-    for answer in answers.chunks_exact_mut(5).take(count) {
+    for answer in answers.chunks_exact_mut(ANSWER).take(count) {
         let (record, next) = takes::read(file, at)?;
         at = next;
         let (number, value) = match carry_out(record, &mut registers, arena, table) {
@@ -84,7 +87,7 @@ pub fn takerun(input: &[u8]) -> String {
         Ok((m, count)) => {
             let mut arena = vec![0; 1 << m];
             let mut table = vec![0; arena.len() / 16];
-            let mut answers = vec![0; 5 * count];
+            let mut answers = vec![0; ANSWER * count];
             run(input, &mut arena, &mut table, &mut answers).expect("the buffers fit an accepted file");
             printed(arena.len(), &answers)
         }
@@ -94,7 +97,7 @@ pub fn takerun(input: &[u8]) -> String {
 /// The lines for an accepted file, from the arena's length and the answers of its records.
 fn printed(arena_len: usize, answers: &[u8]) -> String {
     let mut text = format!("heap {arena_len}\n");
-    let records = answers.chunks_exact(5);
+    let records = answers.chunks_exact(ANSWER);
     let count = records.len();
     for (index, answer) in records.enumerate() {
         let value = u32::from_be_bytes([answer[1], answer[2], answer[3], answer[4]]);
