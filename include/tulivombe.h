@@ -70,7 +70,7 @@ typedef struct {
     uint32_t value;
 } tulivombe_answer;
 
-/* A part of the lent arena: `length` bytes from arena + `offset`. */
+/* A part of the lent arena: `length` bytes from arena + `offset`. Refused, both are 0. */
 typedef struct {
     uint32_t number;
     uint32_t offset;
@@ -157,9 +157,9 @@ tulivombe_part tulivombe_show(const uint8_t *arena, size_t arena_len, const uint
                               uint32_t p);
 
 /* Runs a take, an upload from a computer, on a heap that it first makes fresh. The arena must have 2^m
- * bytes, m the file's size byte, and the answer slice hold TULIVOMBE_ANSWER_LENGTH bytes a record: number, then value big-endian;
- * its bytes past them stay. The file is judged whole before any call, its records in their order, each for 4 to
- * 7; a refused record ends nothing. Refused: 1 to 9, and then nothing is changed. */
+ * bytes, m the file's size byte, and the answer slice hold TULIVOMBE_ANSWER_LENGTH bytes a record: number, then
+ * value big-endian; its bytes past them stay. The file is judged whole before any call, its records in their
+ * order, each for 4 to 7; a refused record ends nothing. Refused: 1 to 9, and then nothing is changed. */
 tulivombe_ran tulivombe_run(const uint8_t *file, size_t file_len, uint8_t *arena, size_t arena_len,
                             uint8_t *table, size_t table_len, uint8_t *answers, size_t answers_len);
 
@@ -178,12 +178,13 @@ uint32_t tulivombe_put_register(tulivombe_registers *registers, uint8_t d, uint3
  * record, a byte x, and three numbers a, b, c in 4 bytes each, big-endian:
  *     1 get a, 2 give a, 3 step a b, 4 read a x, 5 write a x b, 6 left a, 7 copy a b c, 8 fill a x c
  * with the arguments in the order of the calls above; what a call does not name is not looked at.
- * Refused: 4 (no whole number of calls), 5, 8, 9, and then nothing is changed. Returns the number. */
+ * There may be any number of calls. Refused: 4 (no whole number of calls), 5 (in any of them), 8, 9, and then
+ * nothing is changed. Returns the number. */
 uint32_t tulivombe_replay(uint8_t *arena, size_t arena_len, uint8_t *table, size_t table_len,
                           const uint8_t *calls, size_t calls_len, uint8_t *out, size_t out_len);
 
-/* Reads the record at a place of a file. The first record is at 2; any place may be asked for. The head and the
- * rest of the file are not judged. Refused: 4 to 7. */
+/* Reads the record at a place of a file. The first record is at 2; any place may be asked for, and one at the
+ * file's end or past it is refused 4. The head and the rest of the file are not judged. Refused: 4 to 7. */
 tulivombe_place tulivombe_read_record(const uint8_t *file, size_t file_len, size_t at);
 
 /* Stores the two head bytes of a file for an arena of 2^m bytes. Refused: 2, 9. Value: 2. */
