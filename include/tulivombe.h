@@ -13,10 +13,12 @@
  *
  * Pointers. A pointer into the heap is a number: the arena's first byte has the address 65536. With the
  * top bit set (TULIVOMBE_MARK) it is marked: it lies up to 8 bytes outside its block, and only
- * tulivombe_step takes it.
+ * tulivombe_step takes it. Its block is sought one slot of 16 bytes back (address mod 16 below 8) or on
+ * (else); that of a plain pointer is sought at its own address.
  *
  * Answers. `number` is 0 or says why the call was refused; a refused call has value 0 and changes
- * nothing. Where several reasons apply, the first of the call's list ("Refused: ..") is given.
+ * nothing. Where several reasons apply, the first of the call's list ("Refused: ..") is given, which need not be
+ * the smallest number: 27 is judged before 22.
  *
  * Guests. The bytes of one block can be kept from a guest who makes calls on the same heap: docs/MANUAL.md,
  * "A hidden block", says which calls to hold back.
@@ -39,7 +41,7 @@ extern "C" {
 #define TULIVOMBE_ANSWER_LENGTH 5   /* bytes of an answer: number, then value big-endian */
 #define TULIVOMBE_CALL_LENGTH 14    /* bytes of a call in a replay */
 
-/* What `number` can say. 1 to 13 and 26 speak of the input, 20 to 25 of the heap's state. */
+/* What `number` can say. 1 to 13 and 26 speak of the input, 20 to 25 and 27 of the heap's state. */
 enum tulivombe_number {
     TULIVOMBE_OK = 0,
     TULIVOMBE_VERSION = 1,           /* file empty, or its first byte is not 01 */
@@ -57,11 +59,12 @@ enum tulivombe_number {
     TULIVOMBE_MARKED = 13,           /* marked pointer in any call but step */
     TULIVOMBE_DAMAGED = 20,          /* the table stands for no set of blocks */
     TULIVOMBE_NO_FREE_RANGE = 21,    /* get: no free range is large enough */
-    TULIVOMBE_NO_REFERENT = 22,      /* a pointer belongs to no live block */
+    TULIVOMBE_FREE_SLOT = 22,        /* a pointer is sought at a free slot: its block is given back, or was never got */
     TULIVOMBE_NOT_THE_START = 23,    /* give: not the block's start */
     TULIVOMBE_BEYOND_REACH = 24,     /* step: more than 8 bytes outside the block */
     TULIVOMBE_PAST_THE_END = 25,     /* read, write: the last byte lies outside the block */
-    TULIVOMBE_TOO_MANY_RECORDS = 26  /* front panel: more than TULIVOMBE_SCREENFUL records */
+    TULIVOMBE_TOO_MANY_RECORDS = 26, /* front panel: more than TULIVOMBE_SCREENFUL records */
+    TULIVOMBE_OUTSIDE = 27           /* a pointer is sought outside the arena: it never was one into this heap */
 };
 
 /* A call's answer. */
@@ -115,44 +118,45 @@ tulivombe_answer tulivombe_fresh(uint8_t *arena, size_t arena_len, uint8_t *tabl
 tulivombe_answer tulivombe_get(uint8_t *arena, size_t arena_len, uint8_t *table, size_t table_len, uint32_t n);
 
 /* Gives the block that starts at p back. Its bytes stay as they are until a get makes a block of them or
- * tulivombe_fresh clears all. Refused: 8, 13, 20, 22, 23. Value: 0. */
+ * tulivombe_fresh clears all. Refused: 8, 13, 20, 27, 22, 23. Value: 0. */
 tulivombe_answer tulivombe_give(const uint8_t *arena, size_t arena_len, uint8_t *table, size_t table_len,
                                 uint32_t p);
 
-/* Steps from p, plain or marked, by i bytes, a signed number in two's complement. Refused: 8, 20, 22, 24.
+/* Steps from p, plain or marked, by i bytes, a signed number in two's complement. Refused: 8, 20, 27, 22, 24.
  * Value: the sum, marked if it lies up to 8 bytes before or past p's block. */
 tulivombe_answer tulivombe_step(const uint8_t *arena, size_t arena_len, const uint8_t *table, size_t table_len,
                                 uint32_t p, uint32_t i);
 
-/* Reads w bytes (1, 2 or 4) at p. Refused: 8, 11, 13, 20, 22, 25. Value: the bytes as a big-endian number. */
+/* Reads w bytes (1, 2 or 4) at p. Refused: 8, 11, 13, 20, 27, 22, 25. Value: the bytes as a big-endian number. */
 tulivombe_answer tulivombe_read(const uint8_t *arena, size_t arena_len, const uint8_t *table, size_t table_len,
                                 uint32_t p, uint8_t w);
 
-/* Writes v as w bytes (1, 2 or 4), big-endian, at p. Refused: 8, 11, 12, 13, 20, 22, 25. Value: 0. */
+/* Writes v as w bytes (1, 2 or 4), big-endian, at p. Refused: 8, 11, 12, 13, 20, 27, 22, 25. Value: 0. */
 tulivombe_answer tulivombe_write(uint8_t *arena, size_t arena_len, const uint8_t *table, size_t table_len,
                                  uint32_t p, uint8_t w, uint32_t v);
 
-/* Counts the bytes from p to the end of its block. Refused: 8, 13, 20, 22. Value: the count. */
+/* Counts the bytes from p to the end of its block. Refused: 8, 13, 20, 27, 22. Value: the count. */
 tulivombe_answer tulivombe_left(const uint8_t *arena, size_t arena_len, const uint8_t *table, size_t table_len,
                                 uint32_t p);
 
 /* Copies up to n bytes from q to p, cut short at the end of either block. Where the two ranges overlap, as with
- * memmove, p gets what q's bytes were before the call. Refused: 8, 13, 20, 22. Value: the count of bytes copied. */
+ * memmove, p gets what q's bytes were before the call. One pointer outside the arena is enough for 27, whatever
+ * the other is, and else one at a free slot for 22. Refused: 8, 13, 20, 27, 22. Value: the count of bytes copied. */
 tulivombe_answer tulivombe_copy(uint8_t *arena, size_t arena_len, const uint8_t *table, size_t table_len,
                                 uint32_t p, uint32_t q, uint32_t n);
 
-/* Sets up to n bytes from p to v, cut short at the end of the block. Refused: 8, 13, 20, 22. Value: the
+/* Sets up to n bytes from p to v, cut short at the end of the block. Refused: 8, 13, 20, 27, 22. Value: the
  * count of bytes set. */
 tulivombe_answer tulivombe_fill(uint8_t *arena, size_t arena_len, const uint8_t *table, size_t table_len,
                                 uint32_t p, uint8_t v, uint32_t n);
 
 /* Checks whether the sum of h, a plain pointer, and i, signed in two's complement, lies in h's block.
- * Refused: 8, 13, 20, 22. Value: 1 or 0. */
+ * Refused: 8, 13, 20, 27, 22. Value: 1 or 0. */
 tulivombe_answer tulivombe_check(const uint8_t *arena, size_t arena_len, const uint8_t *table, size_t table_len,
                                  uint32_t h, uint32_t i);
 
 /* Shows the bytes from p to the end of its block, without a copy: the part lies in the lent arena. Refused:
- * 8, 13, 20, 22, as left is, and then the part is empty. */
+ * 8, 13, 20, 27, 22, as left is, and then the part is empty. */
 tulivombe_part tulivombe_show(const uint8_t *arena, size_t arena_len, const uint8_t *table, size_t table_len,
                               uint32_t p);
 

@@ -1,4 +1,4 @@
-/* Prints the header's limits, lengths and the front panel's number, for the Rust tests to compare with their own. */
+/* Prints the header's limits and lengths, and the refusals that the requests brought or changed, for the Rust tests to compare with their own. */
 
 #include <stdio.h>
 
@@ -12,6 +12,8 @@ int main(void)
     NUMBER(LONGEST_FILE);
     NUMBER(ANSWER_LENGTH);
     NUMBER(CALL_LENGTH);
+    NUMBER(FREE_SLOT);
     NUMBER(TOO_MANY_RECORDS);
+    NUMBER(OUTSIDE);
     return 0;
 }

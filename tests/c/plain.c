@@ -13,14 +13,16 @@
 #define LARGEST_ORDER 16
 
 enum refusal {
+    NONE = 0,
     LENGTHS = 8,
     GET_SIZE = 10,
     MARKED = 13,
     DAMAGED = 20,
     NO_FREE_RANGE = 21,
-    NO_REFERENT = 22,
+    FREE_SLOT = 22,
     NOT_THE_START = 23,
-    BEYOND_REACH = 24
+    BEYOND_REACH = 24,
+    OUTSIDE = 27
 };
 
 typedef struct {
@@ -84,20 +86,22 @@ static bool damaged(const uint8_t *table, size_t slots)
     return false;
 }
 
-/* The block that holds a plain address. */
-static bool block_at(const uint8_t *table, size_t slots, uint32_t address, struct block *block)
+/* Finds the block that holds a plain address, or says which way it is missing. */
+static enum refusal block_at(const uint8_t *table, size_t slots, uint32_t address, struct block *block)
 {
     uint32_t offset = address - BASE;
     size_t slot = offset / SLOT;
-    if (slot >= slots || table[slot] == 0)
-        return false;
+    if (slot >= slots)
+        return OUTSIDE;
+    if (table[slot] == 0)
+        return FREE_SLOT;
     block->size = UINT32_C(1) << table[slot];
     block->start = offset & ~(block->size - 1);
-    return true;
+    return NONE;
 }
 
-/* The block that a pointer belongs to: a marked one lies in the half of a slot that is next to it. */
-static bool referent(const uint8_t *table, size_t slots, uint32_t p, struct block *block)
+/* Finds the block that a pointer belongs to: a marked one lies in the half of a slot that is next to it. */
+static enum refusal referent(const uint8_t *table, size_t slots, uint32_t p, struct block *block)
 {
     uint32_t address = p & ~MARK;
     if (p == address)
@@ -171,8 +175,9 @@ plain_answer plain_give(const uint8_t *arena, size_t arena_len, uint8_t *table, 
     if (damaged(table, table_len))
         return refused(DAMAGED);
     struct block block;
-    if (!block_at(table, table_len, p, &block))
-        return refused(NO_REFERENT);
+    enum refusal missing = block_at(table, table_len, p, &block);
+    if (missing)
+        return refused(missing);
     if (p - BASE != block.start)
         return refused(NOT_THE_START);
     memset(table + block.start / SLOT, 0, block.size / SLOT);
@@ -188,8 +193,9 @@ plain_answer plain_step(const uint8_t *arena, size_t arena_len, const uint8_t *t
     if (damaged(table, table_len))
         return refused(DAMAGED);
     struct block block;
-    if (!referent(table, table_len, p, &block))
-        return refused(NO_REFERENT);
+    enum refusal missing = referent(table, table_len, p, &block);
+    if (missing)
+        return refused(missing);
     int64_t address = (int64_t)(p & ~MARK) + (int32_t)i;
     int64_t start = (int64_t)BASE + block.start;
     int64_t end = start + block.size;
@@ -210,7 +216,8 @@ plain_answer plain_left(const uint8_t *arena, size_t arena_len, const uint8_t *t
     if (damaged(table, table_len))
         return refused(DAMAGED);
     struct block block;
-    if (!block_at(table, table_len, p, &block))
-        return refused(NO_REFERENT);
+    enum refusal missing = block_at(table, table_len, p, &block);
+    if (missing)
+        return refused(missing);
     return accepted(block.start + block.size - (p - BASE));
 }

@@ -15,6 +15,18 @@ pub enum Call {
     Fill { p: u32, v: u8, n: u32 },
 }
 
+/// Each of the eight calls once, where the arguments don't matter.
+pub const CALLS: [Call; 8] = [
+    Call::Get { n: 0 },
+    Call::Give { p: 0 },
+    Call::Step { p: 0, i: 0 },
+    Call::Read { p: 0, w: 0 },
+    Call::Write { p: 0, w: 0, v: 0 },
+    Call::Left { p: 0 },
+    Call::Copy { p: 0, q: 0, n: 0 },
+    Call::Fill { p: 0, v: 0, n: 0 },
+];
+
 impl Call {
     /// Makes the call on lent buffers.
     pub fn make<S: Subject>(self, arena: &mut [u8], table: &mut [u8]) -> Answer {
@@ -27,6 +39,29 @@ impl Call {
             Call::Left { p } => S::left(arena, table, p),
             Call::Copy { p, q, n } => S::copy(arena, table, p, q, n),
             Call::Fill { p, v, n } => S::fill(arena, table, p, v, n),
+        }
+    }
+
+    pub fn name(self) -> &'static str {
+        match self {
+            Call::Get { .. } => "get",
+            Call::Give { .. } => "give",
+            Call::Step { .. } => "step",
+            Call::Read { .. } => "read",
+            Call::Write { .. } => "write",
+            Call::Left { .. } => "left",
+            Call::Copy { .. } => "copy",
+            Call::Fill { .. } => "fill",
+        }
+    }
+
+    /// The pointers that the call is given.
+    pub fn pointers(self) -> Vec<u32> {
+        match self {
+            Call::Get { .. } => vec![],
+            Call::Copy { p, q, .. } => vec![p, q],
+            Call::Give { p } | Call::Step { p, .. } | Call::Read { p, .. } => vec![p],
+            Call::Write { p, .. } | Call::Left { p } | Call::Fill { p, .. } => vec![p],
         }
     }
 

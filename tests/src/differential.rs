@@ -2,27 +2,35 @@
 
 use crate::call::Call;
 use crate::lent::Lent;
+use crate::plain::takes;
 use crate::plain_c::PlainC;
 use crate::random::{self, Rng};
 use crate::record::Record;
 use crate::subject::{Answer, Caller, Plain, Subject};
+use std::collections::{BTreeMap, BTreeSet};
 
-/// How often each number was the answer.
+/// The numbers that each call, by its name, was answered with.
+pub type Met = BTreeMap<&'static str, BTreeSet<u32>>;
+
+/// How often each call was answered with each number.
 #[derive(Default)]
-pub struct Tally([u32; 32]);
+pub struct Tally(BTreeMap<(&'static str, u32), u32>);
 
 impl Tally {
-    fn count(&mut self, number: u32) {
-        self.0[number as usize] += 1;
+    fn count(&mut self, call: &'static str, number: u32) {
+        *self.0.entry((call, number)).or_default() += 1;
     }
 
     pub fn total(&self) -> u32 {
-        self.0.iter().sum()
+        self.0.values().sum()
     }
 
-    /// The numbers that were met.
-    pub fn met(&self) -> Vec<u32> {
-        (0..32).filter(|&number| self.0[number as usize] > 0).collect()
+    pub fn met(&self) -> Met {
+        let mut met = Met::new();
+        for &(call, number) in self.0.keys() {
+            met.entry(call).or_default().insert(number);
+        }
+        met
     }
 }
 
@@ -37,6 +45,16 @@ impl Case {
         let arena = Lent::new(rng, arena);
         let table = Lent::new(rng, table);
         Case { arenas: [arena.clone(), arena], tables: [table.clone(), table] }
+    }
+
+    /// A stranger writes one entry of the table.
+    fn poke(&mut self, rng: &mut Rng) {
+        let slots = self.tables[0].bytes().len() as u32;
+        if slots > 0 {
+            let at = rng.below(slots) as usize;
+            let entry = rng.pick(&[0, 1, 4, 5, 6, 16, 17, 132]);
+            self.tables.iter_mut().for_each(|table| table.bytes_mut()[at] = entry);
+        }
     }
 
     fn compare(&self, what: &str) {
@@ -86,8 +104,8 @@ pub fn plain_c_calls(rng: &mut Rng, lists: u32, largest: u32) -> Tally {
     call_lists(rng, lists, largest, "plain C and plain Rust", one_plain_c_call)
 }
 
-/// Makes one call on both heaps of an order, with pointers that are known, and gives the answer's number.
-type MakeOne = fn(&mut Rng, &mut Case, u32, &mut Vec<u32>, &str) -> u32;
+/// Makes one call on both heaps of an order, with pointers that are known, and gives its name and the answer's number.
+type MakeOne = fn(&mut Rng, &mut Case, u32, &mut Vec<u32>, &str) -> (&'static str, u32);
 
 fn call_lists(rng: &mut Rng, lists: u32, largest: u32, names: &str, make_one: MakeOne) -> Tally {
     let mut tally = Tally::default();
@@ -98,42 +116,44 @@ fn call_lists(rng: &mut Rng, lists: u32, largest: u32, names: &str, make_one: Ma
         let mut known = Vec::new();
         let length = if m > 10 { 8 } else { rng.within(1, 40) };
         for index in 0..length {
+            if rng.once_in(64) {
+                heaps.poke(rng);
+            }
             let what = format!("{names}, list {list}, call {index}, m = {m}");
-            tally.count(make_one(rng, &mut heaps, m, &mut known, &what));
+            let (call, number) = make_one(rng, &mut heaps, m, &mut known, &what);
+            tally.count(call, number);
             heaps.compare(&what);
         }
     }
     tally
 }
 
-fn one_call<A: Subject, B: Subject>(rng: &mut Rng, heaps: &mut Case, m: u32, known: &mut Vec<u32>, what: &str) -> u32 {
+fn one_call<A: Subject, B: Subject>(
+    rng: &mut Rng,
+    heaps: &mut Case,
+    m: u32,
+    known: &mut Vec<u32>,
+    what: &str,
+) -> (&'static str, u32) {
     let Case { arenas: [a0, a1], tables: [t0, t1] } = heaps;
     match rng.below(16) {
         0 if rng.once_in(3) => {
             let answers = [A::fresh(a0.bytes_mut(), t0.bytes_mut()), B::fresh(a1.bytes_mut(), t1.bytes_mut())];
             assert_eq!(answers[0], answers[1], "{what}: fresh");
-            answers[0].number
+            ("fresh", answers[0].number)
         }
-        1 if rng.once_in(4) && !t0.bytes().is_empty() => {
-            // a stranger writes one entry
-            let at = rng.below(t0.bytes().len() as u32) as usize;
-            let entry = rng.pick(&[0, 1, 4, 5, 6, 16, 17, 132]);
-            t0.bytes_mut()[at] = entry;
-            t1.bytes_mut()[at] = entry;
-            0
-        }
-        2 | 3 => {
+        1 | 2 => {
             let h = random::pointer(rng, t0.bytes(), known);
             let i = random::distance(rng, m);
             let answers = [A::check(a0.bytes(), t0.bytes(), h, i), B::check(a1.bytes(), t1.bytes(), h, i)];
             assert_eq!(answers[0], answers[1], "{what}: check {h} {i}");
-            answers[0].number
+            ("check", answers[0].number)
         }
-        4 => {
+        3 => {
             let p = random::pointer(rng, t0.bytes(), known);
             let parts = [A::show(a0.bytes(), t0.bytes(), p), B::show(a1.bytes(), t1.bytes(), p)];
             assert_eq!(parts[0], parts[1], "{what}: show {p}");
-            parts[0].number
+            ("show", parts[0].number)
         }
         _ => {
             let call = random::call(rng, t0.bytes(), m, known);
@@ -144,7 +164,7 @@ fn one_call<A: Subject, B: Subject>(rng: &mut Rng, heaps: &mut Case, m: u32, kno
     }
 }
 
-fn one_plain_c_call(rng: &mut Rng, heaps: &mut Case, m: u32, known: &mut Vec<u32>, what: &str) -> u32 {
+fn one_plain_c_call(rng: &mut Rng, heaps: &mut Case, m: u32, known: &mut Vec<u32>, what: &str) -> (&'static str, u32) {
     let Case { arenas: [a0, a1], tables: [t0, t1] } = heaps;
     let p = random::pointer(rng, t0.bytes(), known);
     let n = random::amount(rng, m);
@@ -160,13 +180,13 @@ fn one_plain_c_call(rng: &mut Rng, heaps: &mut Case, m: u32, known: &mut Vec<u32
     agreed(call, [first, second], known, what)
 }
 
-/// The number of two answers to a call, which must be equal; a pointer that it gave is known from now on.
-fn agreed(call: Call, answers: [Answer; 2], known: &mut Vec<u32>, what: &str) -> u32 {
+/// A call's name and the number of two answers to it, which must be equal; a pointer that it gave is known from now on.
+fn agreed(call: Call, answers: [Answer; 2], known: &mut Vec<u32>, what: &str) -> (&'static str, u32) {
     assert_eq!(answers[0], answers[1], "{what}: {call:?}");
     if let (Call::Get { .. } | Call::Step { .. }, 0) = (call, answers[0].number) {
         known.push(answers[0].value);
     }
-    answers[0].number
+    (call.name(), answers[0].number)
 }
 
 /// Random and broken files, run by the caller on buffers that fit or not. Gives the runs' numbers and the records'.
@@ -179,14 +199,8 @@ pub fn runs<A: Subject, B: Subject>(rng: &mut Rng, caller: Caller, files: u32, l
         let file = random::file(rng, m, most);
         let (arena, table) = buffers(rng, m);
         let mut heaps = Case::new(rng, &arena, &table);
-        let needed = 5 * crate::plain::takes::judge(&file).map_or(most as usize, |(_, count)| count);
-        let room = match rng.below(8) {
-            0 => needed.saturating_sub(rng.within(1, 5) as usize),
-            1 => needed + rng.within(1, 20) as usize,
-            _ => needed,
-        };
-        let content = rng.bytes(room);
-        let out = Lent::new(rng, &content);
+        let needed = 5 * takes::judge(&file).map_or(most as usize, |(_, count)| count);
+        let out = answer_slice(rng, needed);
         let mut answers = [out.clone(), out];
         let lent = Lent::new(rng, &file);
         let before = lent.clone();
@@ -199,12 +213,35 @@ pub fn runs<A: Subject, B: Subject>(rng: &mut Rng, caller: Caller, files: u32, l
         heaps.compare(&what);
         same_buffer("answer slice", &answers, &what);
         assert_eq!(lent.difference(&before), None, "{what}: the file changed");
-        tally.count(first.number);
-        for answer in answers[0].bytes().chunks_exact(5).take(first.count as usize) {
-            records.count(u32::from(answer[0]));
+        tally.count("run", first.number);
+        let carried_out = answers[0].bytes().chunks_exact(5).take(first.count as usize);
+        for (name, answer) in operations(&file).into_iter().zip(carried_out) {
+            records.count(name, u32::from(answer[0]));
         }
     }
     (tally, records)
+}
+
+/// A slice for answers: as long as needed, or a little shorter or longer.
+fn answer_slice(rng: &mut Rng, needed: usize) -> Lent {
+    let room = match rng.below(8) {
+        0 => needed.saturating_sub(rng.within(1, 5) as usize),
+        1 => needed + rng.within(1, 20) as usize,
+        _ => needed,
+    };
+    let content = rng.bytes(room);
+    Lent::new(rng, &content)
+}
+
+/// The names of the records' operations.
+fn operations(file: &[u8]) -> Vec<&'static str> {
+    let mut names = Vec::new();
+    let mut at = 2;
+    while let Ok((record, next)) = takes::read(file, at) {
+        names.push(record.name());
+        at = next;
+    }
+    names
 }
 
 /// Random lists of calls as bytes, replayed on buffers that fit or not.
@@ -239,7 +276,7 @@ pub fn replays<A: Subject, B: Subject>(rng: &mut Rng, lists: u32, largest: u32) 
         assert_eq!(first, second, "{what}");
         heaps.compare(&what);
         same_buffer("output", &outs, &what);
-        tally.count(first);
+        tally.count("replay", first);
     }
     tally
 }
@@ -305,7 +342,7 @@ pub fn round_trips<S: Subject>(rng: &mut Rng, files: u32) {
     for _ in 0..files {
         let m = rng.arena_order(16);
         let file = random::file(rng, m, 40);
-        let Ok((_, count)) = crate::plain::takes::judge(&file) else {
+        let Ok((_, count)) = takes::judge(&file) else {
             continue;
         };
         let mut out = vec![0xA5; file.len() + 4];

@@ -1,11 +1,48 @@
 //! The ledger of document 01, with the landed requests of document 02, and the definitions on tables that it does
 //! without. Slow and literal: what `plain` computes in one pass is written here as the papers say it.
 
-use crate::call::Call;
+use crate::call::{Call, CALLS};
 use crate::subject::Answer;
+use std::collections::BTreeMap;
 
 const BASE: i64 = 65_536;
 const MARK: u32 = 2_147_483_648;
+
+/// The numbers of the calls in the order in which they are judged: a refused call gives the first that applies. They
+/// rise, but 27 is "judged just before 22".
+pub const JUDGED: [u32; 12] = [8, 10, 11, 12, 13, 20, 21, 27, 22, 23, 24, 25];
+
+/// Numbers that can refuse a call, each with whether it applies.
+pub type Refusals = Vec<(u32, bool)>;
+
+/// Of the numbers that apply, the one that is judged first.
+pub fn first(refusals: &Refusals) -> Option<u32> {
+    assert!(refusals.iter().all(|(number, _)| JUDGED.contains(number)), "a number has no place: {refusals:?}");
+    JUDGED.into_iter().find(|&number| refusals.contains(&(number, true)))
+}
+
+/// What can refuse each direct call, by its name and in judging order. 8 and 20 speak of the lent buffers; the ledger
+/// judges the rest. check and show, which are in no list, are refused as left is, and fresh by the lengths alone.
+pub fn can_refuse() -> BTreeMap<&'static str, Vec<u32>> {
+    let by_ledger = |call| Ledger::new(5).refusals(call).into_iter().map(|(number, _)| number);
+    let judged = |call| {
+        let numbers: Vec<u32> = by_ledger(call).chain([8, 20]).collect();
+        (call.name(), JUDGED.into_iter().filter(|number| numbers.contains(number)).collect())
+    };
+    let mut all: BTreeMap<_, Vec<u32>> = CALLS.into_iter().map(judged).collect();
+    all.insert("check", all["left"].clone());
+    all.insert("show", all["left"].clone());
+    all.insert("fresh", vec![8]);
+    all
+}
+
+/// What can refuse each record of a take. A run has judged the lengths, and its table is never damaged.
+pub fn can_refuse_records() -> BTreeMap<&'static str, Vec<u32>> {
+    let mut all = can_refuse();
+    all.retain(|name, _| CALLS.iter().any(|call| call.name() == *name));
+    all.values_mut().for_each(|numbers| numbers.retain(|number| ![8, 20].contains(number)));
+    all
+}
 
 /// A block by its first address and order.
 #[derive(Clone, Copy, Debug, PartialEq, Eq, PartialOrd, Ord)]
@@ -86,6 +123,16 @@ impl Ledger {
         self.pairs.iter().copied().find(|pair| pair.holds(sought(p)))
     }
 
+    /// Whether the address that a pointer's home is sought at lies outside the arena.
+    pub fn outside(&self, p: u32) -> bool {
+        !Pair { start: BASE, order: self.m }.holds(sought(p))
+    }
+
+    /// Whether it lies in the arena, in a slot that no pair's range holds.
+    fn at_a_free_slot(&self, p: u32) -> bool {
+        !self.outside(p) && self.home(p).is_none()
+    }
+
     /// For each slot, whether no pair's range holds it.
     fn free_slots(&self) -> Vec<bool> {
         self.table().iter().map(|&entry| entry == 0).collect()
@@ -119,41 +166,47 @@ impl Ledger {
 
     /// Judges and carries out one call.
     pub fn feed(&mut self, call: Call) -> Answer {
-        let refusals = self.refusals(call);
-        if let Some(&(number, _)) = refusals.iter().find(|(_, applies)| *applies) {
-            return Answer { number, value: 0 };
+        match first(&self.refusals(call)) {
+            Some(number) => Answer { number, value: 0 },
+            None => Answer { number: 0, value: self.accept(call) },
         }
-        Answer { number: 0, value: self.accept(call) }
     }
 
-    /// The numbers that can refuse a call, in judging order, each with whether it applies.
-    pub fn refusals(&self, call: Call) -> Vec<(u32, bool)> {
-        let marked = |p: u32| p >= MARK;
-        let lost = |p: u32| self.home(p).is_none();
-        let bad_width = |w: u8| ![1, 2, 4].contains(&w);
-        let too_wide = |w: u8, v: u32| i64::from(v) >= 256i64.pow(u32::from(w.min(4)));
+    /// The numbers that can refuse a call, but for 8 and 20, which the ledger does without.
+    pub fn refusals(&self, call: Call) -> Refusals {
+        let any_marked = |pointers: &[u32]| (13, pointers.iter().any(|&p| p >= MARK));
+        let bad_width = |w: u8| (11, ![1, 2, 4].contains(&w));
+        let too_wide = |w: u8, v: u32| (12, i64::from(v) >= 256i64.pow(u32::from(w.min(4))));
         let past = |p: u32, w: u8| self.home(p).is_some_and(|home| i64::from(p) + i64::from(w) - 1 > home.end());
-        match call {
+        let own = match call {
             Call::Get { n } => {
                 let bad = n == 0 || i64::from(n) > 2i64.pow(self.m);
                 vec![(10, bad), (21, !bad && self.placing(order_needed(n)).is_none())]
             }
             Call::Give { p } => {
                 let inside = self.home(p).is_some_and(|home| home.start != i64::from(p));
-                vec![(13, marked(p)), (22, lost(p)), (23, inside)]
+                vec![any_marked(&[p]), (23, inside)]
             }
             Call::Step { p, i } => {
                 let r = i64::from(p % MARK) + i64::from(i as i32);
                 let beyond = self.home(p).is_some_and(|home| r < home.start - 8 || r > home.end() + 8);
-                vec![(22, lost(p)), (24, beyond)]
+                vec![(24, beyond)]
             }
-            Call::Read { p, w } => vec![(11, bad_width(w)), (13, marked(p)), (22, lost(p)), (25, past(p, w))],
-            Call::Write { p, w, v } => {
-                vec![(11, bad_width(w)), (12, too_wide(w, v)), (13, marked(p)), (22, lost(p)), (25, past(p, w))]
-            }
-            Call::Left { p } | Call::Fill { p, .. } => vec![(13, marked(p)), (22, lost(p))],
-            Call::Copy { p, q, .. } => vec![(13, marked(p) || marked(q)), (22, lost(p) || lost(q))],
+            Call::Read { p, w } => vec![bad_width(w), any_marked(&[p]), (25, past(p, w))],
+            Call::Write { p, w, v } => vec![bad_width(w), too_wide(w, v), any_marked(&[p]), (25, past(p, w))],
+            Call::Left { p } | Call::Fill { p, .. } => vec![any_marked(&[p])],
+            Call::Copy { p, q, .. } => vec![any_marked(&[p, q])],
+        };
+        [own, self.missing(&call.pointers())].concat()
+    }
+
+    /// Both kinds of missing: of several pointers one is enough for either.
+    fn missing(&self, pointers: &[u32]) -> Refusals {
+        if pointers.is_empty() {
+            return Vec::new();
         }
+        let any = |test: fn(&Ledger, u32) -> bool| pointers.iter().any(|&p| test(self, p));
+        vec![(27, any(Ledger::outside)), (22, any(Ledger::at_a_free_slot))]
     }
 
     fn accept(&mut self, call: Call) -> u32 {
@@ -174,7 +227,7 @@ impl Ledger {
             }
             Call::Step { p, i } => {
                 let r = i64::from(p % MARK) + i64::from(i as i32);
-                if self.home(p).expect("not refused 22").holds(r) {
+                if self.home(p).expect("it has a home").holds(r) {
                     r as u32
                 } else {
                     r as u32 + MARK
@@ -210,7 +263,7 @@ impl Ledger {
     }
 
     fn left(&self, p: u32) -> i64 {
-        self.home(p).expect("not refused 22").end() - i64::from(p) + 1
+        self.home(p).expect("it has a home").end() - i64::from(p) + 1
     }
 
     fn byte(&mut self, address: i64) -> &mut u8 {

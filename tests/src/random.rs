@@ -139,7 +139,7 @@ fn damage(rng: &mut Rng, m: u32) -> u8 {
 pub fn pointer(rng: &mut Rng, table: &[u8], known: &[u32]) -> u32 {
     let plain = match rng.below(12) {
         0 => return rng.word(),
-        1 => rng.pick(&[0, 7, 8, 15, 16, BASE - 16, BASE - 9, BASE - 8, BASE - 1, MARK - 1, MARK - 16, MARK - 8]),
+        1 => edge(rng, table),
         2 if !known.is_empty() => return rng.pick(known),
         3 | 4 => BASE.wrapping_sub(24) + rng.below(16 * table.len() as u32 + 48),
         _ => near_a_block(rng, table),
@@ -148,6 +148,16 @@ pub fn pointer(rng: &mut Rng, table: &[u8], known: &[u32]) -> u32 {
         plain | MARK
     } else {
         plain
+    }
+}
+
+/// An address at which the arena, a half of a slot beside it or all addresses begin or end: by its half of a slot a
+/// marked pointer is sought a slot back or a slot on.
+fn edge(rng: &mut Rng, table: &[u8]) -> u32 {
+    let end = BASE + 16 * table.len() as u32;
+    match rng.below(8) {
+        0 | 1 => rng.pick(&[0, 7, 8, 15, 16, MARK - 1, MARK - 8, MARK - 9, MARK - 16]),
+        _ => rng.pick(&[BASE, end]).wrapping_add_signed(rng.pick(&[-24, -17, -16, -9, -8, -1, 0, 7, 8, 15, 16])),
     }
 }
 
@@ -247,9 +257,12 @@ pub fn call(rng: &mut Rng, table: &[u8], m: u32, known: &[u32]) -> Call {
 
 /// A record whose registers are below `registers`; few of them make takes that work on few blocks.
 pub fn record(rng: &mut Rng, m: u32, registers: u32) -> Record {
-    let d = rng.below(registers) as u8;
-    let a = rng.below(registers) as u8;
-    let b = rng.below(registers) as u8;
+    let [d, a, b] = [(); 3].map(|()| rng.below(registers) as u8);
+    record_of(rng, m, d, a, b)
+}
+
+/// A record with these registers; values that are no pointers often go where no pointer is kept.
+fn record_of(rng: &mut Rng, m: u32, d: u8, a: u8, b: u8) -> Record {
     match rng.below(10) {
         0..=2 => Record::Get { d, n: amount(rng, m) },
         3 => Record::Give { a },
@@ -277,16 +290,31 @@ fn shift(rng: &mut Rng, m: u32, registers: u32) -> [Record; 3] {
     ]
 }
 
+/// Records that go to the last bytes of a new block, read and write past its end, and leave it by a few bytes; then
+/// two with that marked pointer.
+fn end_of_a_block(rng: &mut Rng, m: u32, registers: u32) -> [Record; 7] {
+    let [a, b] = [(); 2].map(|()| rng.below(registers) as u8);
+    [
+        Record::Get { d: a, n: rng.within(1, 16) },
+        Record::Step { d: b, a, i: rng.within(13, 15) },
+        Record::Read { d: 15, a: b, w: 4 },
+        Record::Write { a: b, w: 4, v: rng.word() },
+        Record::Step { d: b, a: b, i: rng.within(3, 8) },
+        record_of(rng, m, b, b, a),
+        record_of(rng, m, b, b, a),
+    ]
+}
+
 /// A file with up to `most` records, broken once in three.
 pub fn file(rng: &mut Rng, m: u32, most: u32) -> Vec<u8> {
     let registers = rng.pick(&[3, 6, 16]);
     let wanted = rng.within(0, most) as usize;
     let mut records = Vec::new();
     while records.len() < wanted {
-        if rng.once_in(40) {
-            records.extend(shift(rng, m, registers));
-        } else {
-            records.push(record(rng, m, registers));
+        match rng.below(40) {
+            0 => records.extend(shift(rng, m, registers)),
+            1 => records.extend(end_of_a_block(rng, m, registers)),
+            _ => records.push(record(rng, m, registers)),
         }
     }
     let mut file = vec![takes::VERSION, m as u8];

@@ -12,3 +12,19 @@ pub enum Record {
     Copy { d: u8, a: u8, b: u8, n: u32 },
     Fill { d: u8, a: u8, v: u8, n: u32 },
 }
+
+impl Record {
+    /// The name of its operation, which is that of the call that it makes.
+    pub fn name(self) -> &'static str {
+        match self {
+            Record::Get { .. } => "get",
+            Record::Give { .. } => "give",
+            Record::Step { .. } => "step",
+            Record::Read { .. } => "read",
+            Record::Write { .. } => "write",
+            Record::Left { .. } => "left",
+            Record::Copy { .. } => "copy",
+            Record::Fill { .. } => "fill",
+        }
+    }
+}

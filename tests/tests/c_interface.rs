@@ -55,7 +55,9 @@ fn numbers_are_alike() {
         ("LONGEST_FILE", takes::LONGEST),
         ("ANSWER_LENGTH", runner::ANSWER),
         ("CALL_LENGTH", replay::CALL),
+        ("FREE_SLOT", Refusal::FreeSlot.number() as usize),
         ("TOO_MANY_RECORDS", Refusal::TooManyRecords.number() as usize),
+        ("OUTSIDE", Refusal::Outside.number() as usize),
     ];
     let lines: String = expected.iter().map(|(name, number)| format!("{name} {number}\n")).collect();
     assert_eq!(program("tests/c/numbers.c", "c", &[]), lines);

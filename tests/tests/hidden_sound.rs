@@ -42,9 +42,10 @@ impl Met {
         self.count(&[
             ("copies within", !given_back && into && moved > Some(0)),
             ("copies of 0 bytes out", !given_back && !into && moved == Some(0)),
-            // past the block's end, and to a pointer without a home: lengths and table are good
+            // past the block's end, and to a pointer without a home, of either kind: lengths and table are good
             ("refused reads", !given_back && drawn && number == 25),
-            ("refused copies", !given_back && drawn && number == 22),
+            ("copies to a free slot", !given_back && drawn && number == 22),
+            ("copies to an address outside", !given_back && drawn && number == 27),
             ("given back", !given_back && accepted && call == Call::Give { p: block.start as u32 }),
             ("later gets", given_back && again),
             ("later reads", shown && matches!(call, Call::Read { .. })),

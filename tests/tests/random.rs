@@ -1,26 +1,39 @@
 //! Random calls, tables, files and histories. TULIVOMBE_SEED=NUMBER repeats a run and
 //! TULIVOMBE_TIMES=NUMBER makes that many times as many cases.
 
-use tulivombe_tests::ledger;
+use std::collections::BTreeMap;
+use tulivombe_tests::differential::Met;
+use tulivombe_tests::ledger::{self, can_refuse, can_refuse_records};
 use tulivombe_tests::literal::Literal;
 use tulivombe_tests::plain::heap;
 use tulivombe_tests::random::{any_table, times, Rng};
 use tulivombe_tests::subject::{Caller, Plain, Subject};
 use tulivombe_tests::{differential, history};
 
+/// That each call is accepted, and refused with all numbers that can refuse it.
+fn all_met(can_refuse: BTreeMap<&'static str, Vec<u32>>) -> Met {
+    can_refuse.into_iter().map(|(name, numbers)| (name, numbers.into_iter().chain([0]).collect())).collect()
+}
+
+/// That one call meets these numbers.
+fn met<const N: usize>(name: &'static str, numbers: [u32; N]) -> Met {
+    Met::from([(name, numbers.into())])
+}
+
 /// `S` and `T` on the same input: `cases` lists of calls, runs and files read, in arenas up to order `largest`.
 fn compare<S: Subject, T: Subject>(name: &str, cases: u32, largest: u32) {
     let rng = &mut Rng::seeded(name);
     let cases = cases * times();
     let calls = differential::calls::<S, T>(rng, cases, largest);
-    assert_eq!(calls.met(), [0, 8, 10, 11, 12, 13, 20, 21, 22, 23, 24, 25]);
+    assert_eq!(calls.met(), all_met(can_refuse()));
     let (runs, records) = differential::runs::<S, T>(rng, Caller::Upload, cases, largest);
-    assert_eq!(runs.met(), [0, 1, 2, 3, 4, 5, 6, 7, 8, 9]);
-    assert_eq!(records.met(), [0, 10, 11, 12, 13, 21, 22, 23, 24, 25]);
+    assert_eq!(runs.met(), met("run", [0, 1, 2, 3, 4, 5, 6, 7, 8, 9]));
+    assert_eq!(records.met(), all_met(can_refuse_records()));
     let (panel_runs, panel_records) = differential::runs::<S, T>(rng, Caller::Panel, cases, largest);
-    assert_eq!(panel_runs.met(), [0, 1, 2, 3, 4, 5, 6, 7, 8, 9, 26]);
+    assert_eq!(panel_runs.met(), met("run", [0, 1, 2, 3, 4, 5, 6, 7, 8, 9, 26]));
+    assert_eq!(panel_records.met(), all_met(can_refuse_records()));
     let replays = differential::replays::<S, T>(rng, cases, largest);
-    assert_eq!(replays.met(), [0, 4, 5, 8, 9]);
+    assert_eq!(replays.met(), met("replay", [0, 4, 5, 8, 9]));
     differential::reader::<S, T>(rng, cases);
     differential::writer::<S, T>(rng, 4 * cases);
     let calls = calls.total();
@@ -63,7 +76,9 @@ fn plain_damage_scan() {
 fn plain_c_against_plain() {
     let rng = &mut Rng::seeded("plain_c_against_plain");
     let calls = differential::plain_c_calls(rng, 20_000 * times(), 16);
-    assert_eq!(calls.met(), [0, 8, 10, 13, 20, 21, 22, 23, 24]);
+    let mut expected = all_met(can_refuse());
+    expected.retain(|name, _| ["get", "give", "step", "left"].contains(name));
+    assert_eq!(calls.met(), expected);
     println!("plain_c_against_plain: {} calls", calls.total());
 }
 

@@ -113,9 +113,9 @@ fn refused<S: Subject>() {
         assert_eq!(copy(&table, p, q | MARK), Answer { number: 13, value: 0 });
         assert_eq!(copy(&table[1..], p, q), Answer { number: 8, value: 0 });
     }
-    for (live, lost) in [(BASE, BASE - 1), (BASE + 127, BASE + 128)] {
-        assert_eq!(copy(&table, live, lost), Answer { number: 22, value: 0 });
-        assert_eq!(copy(&table, lost, live), Answer { number: 22, value: 0 });
+    for (live, lost, number) in [(BASE, BASE - 1, 27), (BASE + 127, BASE + 128, 22)] {
+        assert_eq!(copy(&table, live, lost), Answer { number, value: 0 });
+        assert_eq!(copy(&table, lost, live), Answer { number, value: 0 });
     }
     table[15] = 3;
     assert_eq!(copy(&table, BASE + 1, BASE), Answer { number: 20, value: 0 });

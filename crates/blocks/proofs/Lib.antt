@@ -5,6 +5,7 @@ pub mod Checks
 pub mod Tables
 pub mod Slots
 pub mod Referents
+pub mod Outside
 pub mod FreeRuns
 pub mod Rows
 pub mod Halves

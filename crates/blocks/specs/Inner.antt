@@ -1,5 +1,5 @@
 -- What the parts of the code say to each other of the address that is sought, the damage scan and the search by halves. Document 01 has none of it:
--- `pointer_referent`, `damaged` and `find_place` promise `pointerReferent`, `damagedBy` and `placeIn`. Where `allFree` is given another test than
+-- `referent_in`, `damaged` and `find_place` promise `referentIn`, `damagedBy` and `placeIn`. Where `allFree` is given another test than
 -- that of free slots, it says that all of the slots pass it.
 use Prim.Native.Nat.{ℕ, zero, suc, _+_, _-_, _*_, _^_, _≤_, _<_}
 use mathlib.Core.Bool.{Bool, false, cond, not, _&&_, _||_}

@@ -1,11 +1,12 @@
 -- Document 01, "Blocks and their table": plain and marked (out-of-bounds) pointers, exact and wrapping sums, and the check by xor and shift.
--- A slot has 2 ^ t bytes.
+-- Request 6 of document 02: what lies outside the arena. A slot has 2 ^ t bytes.
 use Prim.Native.Nat.{ℕ, _+_, _-_, _/_, _%_, _^_}
-use mathlib.Core.Bool.{Bool, false, cond, _&&_, _||_}
+use mathlib.Core.Bool.{Bool, true, false, not, cond, _&&_, _||_}
 use lib.Bits.{bitXor}
 use lib.Dec.{leb, ltb, eqb}
 use lib.IntN.{ℤ, pos, negsuc, subℕ, _+ℤ_}
 use lib.Signed.{leZ, ltZ}
+use Rattle.blocks.specs.Blocks.{base}
 use Rattle.blocks.specs.declared.Referent.{Referent}
 use Rattle.blocks.specs.declared.Referent.the-variants.{Missing, Found}
 
@@ -33,6 +34,11 @@ referentAt f (negsuc n) = Missing
 -- the referent of a pointer, plain or marked
 abbrev pub pointerReferent : ℕ → (ℕ → Referent) → ℕ → Referent
 pointerReferent t f p = referentAt f (sought t p)
+
+-- an exact address lies outside an arena of 2 ^ m bytes
+abbrev pub outsideAt : ℕ → ℤ → Bool
+outsideAt m (pos q) = not (leb base q && ltb q (base + 2 ^ m))
+outsideAt m (negsuc n) = true
 
 -- the number that 32 bits stand for in two's complement
 unfoldable pub signed : ℕ → ℤ

@@ -1,6 +1,7 @@
 // Aligned blocks and their table: the damage scan, a pointer's referent, the check of a step, and the search for a free range. A slot has 2^t bytes.
 ghost use mathlib.Core.Path.{_≡_};
 ghost use mathlib.Core.Bool.{false};
+ghost use lib.IntN.{pos};
 ghost use lib.ListN.{length};
 ghost use Prim.Native.Nat.{_+_, _-_, _^_, _≤_, _<_};
 ghost use Rattle.blocks.specs.Blocks.{floor, holds};
@@ -8,7 +9,7 @@ ghost use Rattle.blocks.specs.Orders.{orderOf, neededOrder};
 ghost use Rattle.blocks.specs.Inner.{fromZero};
 ghost use Rattle.blocks.specs.Tables.{damagedBy, freeIn, referentIn};
 ghost use Rattle.blocks.specs.Placing.{placeIn};
-ghost use Rattle.blocks.specs.Pointers.{sought, pointerReferent, marked, address, exactSum, wrappedSum, checkBits, within};
+ghost use Rattle.blocks.specs.Pointers.{sought, outsideAt, marked, address, exactSum, wrappedSum, checkBits, within};
 use common::wide;
 use search::KEYS;
 use search::NOWHERE;
@@ -121,7 +122,7 @@ pub fn address_of(p: u32) -> u32
     if is_marked(p) { p - MARK } else { p }
 }
 
-// The address at which p's referent is sought.
+// The address at which p's referent is sought. A negative one is given as 0, where no block is either.
 pub fn sought_address(t: u32, p: u32) -> u32
     requires { ⌜ (1 ≤ t) × (t ≤ 16) ⌝ }
     ensures { λ r. ⌜ r ≡ fromZero (sought t p) ⌝ }
@@ -161,12 +162,17 @@ pub fn referent_in(table: &[u8], t: u32, m: u32, q: u32) -> Referent
     Referent::Found(BASE + x / size * size, e)
 }
 
-// The referent of a pointer, plain or marked.
-pub fn pointer_referent(table: &[u8], t: u32, m: u32, p: u32) -> Referent
-    requires { ⌜ (1 ≤ t) × (t ≤ m) × (m ≤ 16) × (length (now table) ≡ 2 ^ (m - t)) × (damagedBy t m (now table) ≡ false) ⌝ }
-    ensures { λ r. ⌜ r ≡ pointerReferent t (referentIn t (now (table .entry))) p ⌝ }
+// Whether the address q lies outside the arena of this table. The tests are those by which `referent_in` finds no slot, so that the compiler makes them
+// once.
+pub fn is_outside(table: &[u8], t: u32, m: u32, q: u32) -> bool
+    requires { ⌜ (1 ≤ t) × (t ≤ m) × (m ≤ 16) × (length (now table) ≡ 2 ^ (m - t)) ⌝ }
+    ensures { λ b. ⌜ b ≡ outsideAt m (pos q) ⌝ }
 {
-    referent_in(table, t, m, sought_address(t, p))
+    if q < BASE {
+        return true;
+    }
+    let i = ((q - BASE) >> t) as usize;
+    table.len() <= i
 }
 
 // Whether the table of an arena of order m is damaged. The scan is lent a part that is the whole table: a slice that is handed on itself would be passed

@@ -1,13 +1,18 @@
 -- Laws of an ordered list of refusals: which number is the first, and what is known where none applies.
 use Prim.Native.Nat.{ℕ, suc, _<_}
-use mathlib.Core.Path.{_≡_, refl, _∙_}
-use mathlib.Core.Bool.{Bool, true, false, not, cond, _&&_}
+use mathlib.Core.Path.{_≡_, refl, _∙_, subst}
+use mathlib.Core.Bool.{Bool, true, false, not, cond, _&&_, _||_, false≢true}
 use mathlib.Core.List.{List, [], _∷_, _++_}
 use native.Mathlib.Omega.{arith}
-use borrow.Author.Tests.{ltb-true, eqb-true, eqb-false, ne-eqb, not-true}
+use borrow.Author.Tests.{ltb-true, eqb-true, eqb-false, eq-eqb, ne-eqb, not-true}
 use lib.Dec.{eqb, ltb}
-use Rattle.common.specs.Refusals.{Refusal, _when_, first}
-use Rattle.common.proofs.Booleans.{and-left, and-right}
+use Rattle.common.specs.Refusals.{Refusal, _when_, first, isOneOf}
+use Rattle.common.proofs.Booleans.{and-left, and-right, or-right}
+
+-- every number of a list passes the test
+abbrev pub allOf : (ℕ → Bool) → List ℕ → Bool
+allOf f [] = true
+allOf f (n ∷ ns) = f n && allOf f ns
 
 -- the condition of the number k in the list
 abbrev pub condOf : ℕ → List Refusal → Bool
@@ -66,6 +71,64 @@ not-given k ((n when b) ∷ rs) h e = go b e (not-given k rs (and-right (not (eq
     go : (b : Bool) → cond b n (first rs) ≡ suc k → (first rs ≡ suc k → ⊥) → ⊥
     go true q ih = eqb-false n (suc k) (not-true _ (and-left _ _ h)) q
     go false q ih = ih q
+
+-- and one that a single refusal of the list has is given only where its condition holds
+abbrev pub once : ℕ → List Refusal → Bool
+once k [] = true
+once k ((n when b) ∷ rs) = cond (eqb n k) (lacks k rs) (once k rs)
+
+pub given : (k : ℕ) (rs : List Refusal) → once (suc k) rs ≡ true → first rs ≡ suc k → condOf (suc k) rs ≡ true
+given k [] h e = absurd (omega arith)
+given k ((n when b) ∷ rs) h e = go (given k rs) (eqb n (suc k)) refl b h e
+  where
+    go : (once (suc k) rs ≡ true → first rs ≡ suc k → condOf (suc k) rs ≡ true) → (t : Bool) → eqb n (suc k) ≡ t → (b : Bool)
+        → cond t (lacks (suc k) rs) (once (suc k) rs) ≡ true → cond b n (first rs) ≡ suc k → cond t b (condOf (suc k) rs) ≡ true
+    go ih true q true h e = refl
+    go ih true q false h e = absurd (not-given k rs h e)
+    go ih false q true h e = absurd (eqb-false n (suc k) q e)
+    go ih false q false h e = ih h e
+
+-- and only where no refusal in front of it applies
+abbrev pub upTo : ℕ → List Refusal → List Refusal
+upTo k [] = []
+upTo k ((n when b) ∷ rs) = cond (eqb n k) [] ((n when b) ∷ upTo k rs)
+
+pub earlier : (k : ℕ) (rs : List Refusal) → first rs ≡ suc k → (j : ℕ) → condOf j (upTo (suc k) rs) ≡ false
+earlier k [] e j = refl
+earlier k ((n when b) ∷ rs) e j = go (λ x. earlier k rs x j) (eqb n (suc k)) refl b e
+  where
+    passed : (s : Bool) → condOf j (upTo (suc k) rs) ≡ false → cond s false (condOf j (upTo (suc k) rs)) ≡ false
+    passed true h = refl
+    passed false h = h
+
+    go : (first rs ≡ suc k → condOf j (upTo (suc k) rs) ≡ false) → (t : Bool) → eqb n (suc k) ≡ t → (b : Bool) → cond b n (first rs) ≡ suc k
+        → condOf j (cond {A = List Refusal} t [] ((n when b) ∷ upTo (suc k) rs)) ≡ false
+    go ih true q b e = refl
+    go ih false q true e = absurd (eqb-false n (suc k) q e)
+    go ih false q false e = passed (eqb n j) (ih e)
+
+-- and where its condition holds, the number given is it or one in front of it
+abbrev pub numbersTo : ℕ → List Refusal → List ℕ
+numbersTo k [] = []
+numbersTo k ((n when b) ∷ rs) = n ∷ cond (eqb n k) [] (numbersTo k rs)
+
+pub reached : (k : ℕ) (rs : List Refusal) → condOf k rs ≡ true → isOneOf (numbersTo k rs) (first rs) ≡ true
+reached k [] c = c
+reached k ((n when b) ∷ rs) c = go (reached k rs) (eqb n k) b c
+  where
+    go : (condOf k rs ≡ true → isOneOf (numbersTo k rs) (first rs) ≡ true) → (t b : Bool) → cond t b (condOf k rs) ≡ true
+        → isOneOf (n ∷ cond {A = List ℕ} t [] (numbersTo k rs)) (cond b n (first rs)) ≡ true
+    go next t true c = rw (eq-eqb n n refl)
+    go next true false c = absurd (false≢true c)
+    go next false false c = or-right (eqb n (first rs)) (next c)
+
+pub one-of-more : (xs ys : List ℕ) → allOf (isOneOf ys) xs ≡ true → (x : ℕ) → isOneOf xs x ≡ true → isOneOf ys x ≡ true
+one-of-more [] ys a x h = absurd (false≢true h)
+one-of-more (n ∷ xs) ys a x h = go (one-of-more xs ys (and-right (isOneOf ys n) _ a) x) (eqb n x) refl h
+  where
+    go : (isOneOf xs x ≡ true → isOneOf ys x ≡ true) → (b : Bool) → eqb n x ≡ b → b || isOneOf xs x ≡ true → isOneOf ys x ≡ true
+    go next true e h = subst (λ (y : ℕ). isOneOf ys y ≡ true) (eqb-true n x e) (and-left (isOneOf ys n) _ a)
+    go next false e h = next h
 
 -- one refusal at a time: that it does not apply, and that a number is 0
 pub clear-one : (n : ℕ) (b : Bool) (rest : ℕ) → (n ≡ 0 → ⊥) → cond b n rest ≡ 0 → (b ≡ false) × (rest ≡ 0)

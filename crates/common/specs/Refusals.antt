@@ -1,7 +1,8 @@
 -- How a call is judged: an ordered list of refusals, each a number with the condition under which it applies.
 use Prim.Native.Nat.{ℕ}
-use mathlib.Core.Bool.{Bool, cond}
+use mathlib.Core.Bool.{Bool, false, cond, _||_}
 use mathlib.Core.List.{List, [], _∷_}
+use lib.Dec.{eqb}
 
 pub data Refusal : Type 0 where
   _when_ : ℕ → Bool → Refusal
@@ -11,3 +12,8 @@ infix 80 _when_
 abbrev pub first : List Refusal → ℕ
 first [] = 0
 first ((n when b) ∷ rs) = cond b n (first rs)
+
+-- a number is one of these
+abbrev pub isOneOf : List ℕ → ℕ → Bool
+isOneOf [] x = false
+isOneOf (n ∷ ns) x = eqb n x || isOneOf ns x

@@ -20,7 +20,7 @@ use Rattle.blocks.specs.declared.Referent.the-variants.{Found}
 use Rattle.blocks.proofs.Floors.{pow-split, floor-same}
 use Rattle.blocks.proofs.Referents.{referent-block, referent-from-zero}
 use Rattle.heap.specs.Views.{View, referentOfPointer, leftFrom}
-use Rattle.heap.specs.Rules.{badWidth, dead, homeRules, argumentRules, stateRules}
+use Rattle.heap.specs.Rules.{badWidth, outsideArena, dead, homeRules, argumentRules, stateRules}
 use Rattle.heap.specs.Effects.{value, stored}
 use Rattle.heap.specs.Heaps.{heapOf, heapView, entered, heapStep, outcome}
 use Rattle.heap.specs.Inner.{Sound, Ready, Holding, located, numberIn}
@@ -202,13 +202,18 @@ module _ {t m p y n : ℕ} {a tab : List ℕ} (z : Ready t m (Copy p y n) a tab)
   -- its number is the greater of the pointers'
   both-first : first (stateRules (Copy p y n) x) ≡ max (first (homeRules x p)) (first (homeRules x y))
   unfolding stateRules
-  both-first = go (dead x p) (dead x y)
+  both-first = go (outsideArena x p) (outsideArena x y) (dead x p) (dead x y)
     where
-      go : (b d : Bool) → first (22 when (b || d) ∷ []) ≡ max (first (22 when b ∷ [])) (first (22 when d ∷ []))
-      go true true = refl
-      go true false = refl
-      go false true = refl
-      go false false = refl
+      go : (a b c d : Bool) → first (27 when (a || b) ∷ 22 when (c || d) ∷ []) ≡ max (first (27 when a ∷ 22 when c ∷ [])) (first (27 when b ∷ 22 when d ∷ []))
+      go true true c d = refl
+      go true false c true = refl
+      go true false c false = refl
+      go false true true d = refl
+      go false true false d = refl
+      go false false true true = refl
+      go false false true false = refl
+      go false false false true = refl
+      go false false false false = refl
 
   numbers-first : first (stateRules (Copy p y n) x) ≡ max (numberIn (located x p)) (numberIn (located x y))
   numbers-first = both-first ∙ ap₂ max (sym (located-number x p)) (sym (located-number x y))

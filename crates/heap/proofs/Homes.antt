@@ -1,14 +1,14 @@
--- Where a pointer leads, by the rules that refuse it and its referent: by cases of both, since 22 refuses exactly the pointer that has none (`found`).
+-- Where a pointer leads, by the rules that refuse it and its referent: by cases of both, since what the rules let pass has a referent (`found`).
 use Prim.Native.Nat.{ℕ, zero, suc}
 use mathlib.Core.Path.{_≡_, refl, sym, _∙_, ap}
-use mathlib.Core.Bool.{false, false≢true}
+use mathlib.Core.Bool.{true, false, false≢true}
 use native.Mathlib.Omega.{arith}
 use Rattle.common.specs.Refusals.{first}
 use Rattle.blocks.specs.Blocks.{missing}
 use Rattle.blocks.specs.declared.Referent.{Referent}
 use Rattle.blocks.specs.declared.Referent.the-variants.{Missing, Found}
 use Rattle.heap.specs.Views.{View, referentOfPointer}
-use Rattle.heap.specs.Rules.{homeRules}
+use Rattle.heap.specs.Rules.{outsideArena, homeRules}
 use Rattle.heap.specs.Inner.{locatedBy, located, numberIn}
 use Rattle.heap.specs.declared.refusals.Located.{Located}
 use Rattle.heap.specs.declared.refusals.Located.the-variants.{Refused, Inside}
@@ -53,9 +53,12 @@ module _ (w : View) (p : ℕ) where
           clash : Refused k ≡ Inside s e → ⊥
           clash h = let y : _≡_ {A = ℕ} 0 1 = cc in absurd (omega arith)
 
-  -- by the referent alone
-  pub located-missing : referentOfPointer w p ≡ Missing → Refused 22 ≡ located w p
-  located-missing f = rw f
+  -- by the referent, and where it is sought
+  pub located-outside : outsideArena w p ≡ true → Refused 27 ≡ located w p
+  located-outside o = rw o
 
-  pub located-found : {s e : ℕ} → referentOfPointer w p ≡ Found s e → Inside s e ≡ located w p
-  located-found f = rw f
+  pub located-free : outsideArena w p ≡ false → referentOfPointer w p ≡ Missing → Refused 22 ≡ located w p
+  located-free o f = rw (o, f)
+
+  pub located-found : {s e : ℕ} → outsideArena w p ≡ false → referentOfPointer w p ≡ Found s e → Inside s e ≡ located w p
+  located-found o f = rw (o, f)

@@ -11,5 +11,6 @@ pub mod Accesses
 pub mod Stepping
 pub mod Placing
 pub mod Showing
+pub mod MissingKinds
 pub mod AnswerBytes
 pub mod Changes

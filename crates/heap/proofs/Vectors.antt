@@ -45,33 +45,33 @@ holdAt (tableIs bs ∷ ls) h = same (h .table) bs && holdAt ls h
 
 calls-047 : List Line
 calls-047 =
-    answers (Fill 65533 117 16) 22 0 ∷ shows 65559 22 [] ∷ answers (Give 65581) 22 0 ∷ shows 65585 22 [] ∷ answers (Get 64) 0 65536
+    answers (Fill 65533 117 16) 27 0 ∷ shows 65559 22 [] ∷ answers (Give 65581) 22 0 ∷ shows 65585 22 [] ∷ answers (Get 64) 0 65536
     ∷ shows 65543 0 (replicate 57 0)
-    ∷ answers (Give 262146) 22 0
+    ∷ answers (Give 262146) 27 0
     ∷ shows 65536 0 (replicate 64 0)
     ∷ pokes 0 128 ∷ checks 65520 4294967217 20 0 ∷ pokes 0 6 ∷ answers (Step 65549 4294967268) 24 0
     ∷ shows 65536 0 (replicate 64 0)
     ∷ answers (Get 17) 21 0
     ∷ shows 65544 0 (replicate 56 0)
-    ∷ answers (Read 65536 4) 0 0 ∷ shows 2147745774 13 [] ∷ answers (Read 65528 1) 22 0
+    ∷ answers (Read 65536 4) 0 0 ∷ shows 2147745774 13 [] ∷ answers (Read 65528 1) 27 0
     ∷ shows 65536 0 (replicate 64 0)
     ∷ answers (Write 262152 3 955000842) 11 0
     ∷ shows 65536 0 (replicate 64 0)
     ∷ freshens 0 ∷ shows 65536 22 [] ∷ answers (Give 65552) 22 0 ∷ shows 65544 22 [] ∷ answers (Write 65536 4 65536) 22 0 ∷ shows 65536 22 []
     ∷ freshens 0 ∷ shows 2147745778 13 [] ∷ answers (Step 65566 9) 22 0 ∷ shows 65588 22 [] ∷ answers (Read 65536 0) 11 0 ∷ shows 65536 22 []
-    ∷ answers (Give 65534) 22 0 ∷ shows 65545 22 [] ∷ answers (Give 65536) 22 0 ∷ shows 65528 22 [] ∷ answers (Give 65536) 22 0
-    ∷ shows 65544 22 [] ∷ pokes 1 0 ∷ answers (Get 1) 0 65536 ∷ pokes 1 0 ∷ answers (Get 37) 21 0 ∷ answers (Get 17) 0 65568 ∷ shows 1 22 []
+    ∷ answers (Give 65534) 27 0 ∷ shows 65545 22 [] ∷ answers (Give 65536) 22 0 ∷ shows 65528 27 [] ∷ answers (Give 65536) 22 0
+    ∷ shows 65544 22 [] ∷ pokes 1 0 ∷ answers (Get 1) 0 65536 ∷ pokes 1 0 ∷ answers (Get 37) 21 0 ∷ answers (Get 17) 0 65568 ∷ shows 1 27 []
     ∷ answers (Give 65536) 0 0
     ∷ shows 65574 0 (replicate 26 0) ∷ pokes 1 128
     ∷ answers (Give 65568) 20 0 ∷ pokes 1 0 ∷ answers (Get 16) 0 65536 ∷ shows 3584167078 13 [] ∷ answers (Give 65570) 23 0
-    ∷ shows 65551 0 (0 ∷ []) ∷ checks 65519 17 22 0 ∷ shows 2147549262 13 [] ∷ answers (Get 16) 0 65552
+    ∷ shows 65551 0 (0 ∷ []) ∷ checks 65519 17 27 0 ∷ shows 2147549262 13 [] ∷ answers (Get 16) 0 65552
     ∷ shows 65552 0 (replicate 16 0) ∷ answers (Get 16) 21 0
-    ∷ shows 65541 0 (replicate 11 0) ∷ answers (Step 2147745805 2247109860) 22 0
+    ∷ shows 65541 0 (replicate 11 0) ∷ answers (Step 2147745805 2247109860) 27 0
     ∷ shows 65536 0 (replicate 16 0) ∷ answers (Write 2147745781 1 65536) 12 0
-    ∷ shows 65519 22 [] ∷ answers (Step 65552 4294967288) 0 2147549192
+    ∷ shows 65519 27 [] ∷ answers (Step 65552 4294967288) 0 2147549192
     ∷ shows 65536 0 (replicate 16 0) ∷ answers (Get 64) 21 0
-    ∷ shows 65559 0 (replicate 9 0) ∷ answers (Left 65545) 0 7 ∷ shows 65519 22 [] ∷ answers (Get 4) 21 0
-    ∷ shows 65536 0 (replicate 16 0) ∷ answers (Left 262135) 22 0
+    ∷ shows 65559 0 (replicate 9 0) ∷ answers (Left 65545) 0 7 ∷ shows 65519 27 [] ∷ answers (Get 4) 21 0
+    ∷ shows 65536 0 (replicate 16 0) ∷ answers (Left 262135) 27 0
     ∷ shows 65585 0 (replicate 15 0) ∷ answers (Write 65549 4 256) 25 0
     ∷ shows 65568 0 (replicate 32 0)
     ∷ checks 2147745806 2537399657 13 0 ∷ shows 65598 0 (0 ∷ 0 ∷ []) ∷ answers (Get 1020249951) 10 0
@@ -83,7 +83,7 @@ calls-047 =
     ∷ answers (Fill 2147549206 4 65) 13 0 ∷ shows 65552 0 (replicate 16 0)
     ∷ answers (Write 65568 0 3328590856) 11 0 ∷ shows 2147745796 13 [] ∷ answers (Left 65559) 0 9 ∷ shows 2147549192 13 []
     ∷ answers (Get 3875554917) 10 0 ∷ shows 2147549205 13 [] ∷ answers (Give 65580) 23 0 ∷ shows 2147549185 13 [] ∷ answers (Get 64) 21 0
-    ∷ shows 65551 0 (0 ∷ []) ∷ answers (Copy 65548 65600 3) 22 0
+    ∷ shows 65551 0 (0 ∷ []) ∷ answers (Copy 65548 65600 3) 27 0
     ∷ shows 65536 0 (86 ∷ replicate 15 0)
     ∷ arenaIs (86 ∷ replicate 63 0)
     ∷ tableIs (4 ∷ 4 ∷ 5 ∷ 5 ∷ []) ∷ []
@@ -111,6 +111,19 @@ rotated : holdAt
     (freshHeap 5) ≡ true
 unfolding holdAt
 rotated = refl
+
+-- Request 6: two slots, the first taken. Either end of the arena; marked pointers that are sought in the block, at the free slot, outside on both sides and
+-- below 0; copies with one pointer outside, whichever it is, or none; and what is judged before: the mark and a damaged table.
+which-missing : holdAt
+    (answers (Get 16) 0 65536 ∷ answers (Left 65535) 27 0 ∷ answers (Left 65552) 22 0 ∷ answers (Left 65567) 22 0 ∷ answers (Left 65568) 27 0
+    ∷ answers (Give 65552) 22 0 ∷ answers (Give 65568) 27 0 ∷ answers (Read 65568 1) 27 0 ∷ answers (Write 0 1 0) 27 0 ∷ answers (Fill 65568 1 0) 27 0
+    ∷ answers (Step 2147549176 8) 0 65536 ∷ answers (Step 2147549223 0) 22 0 ∷ answers (Step 2147549175 9) 27 0 ∷ answers (Step 2147549224 0) 27 0
+    ∷ answers (Step 2147483655 0) 27 0 ∷ answers (Copy 65552 65568 1) 27 0 ∷ answers (Copy 65568 65552 1) 27 0 ∷ answers (Copy 65536 65535 0) 27 0
+    ∷ answers (Copy 65536 65552 1) 22 0 ∷ answers (Copy 65552 65536 1) 22 0 ∷ checks 65552 0 22 0 ∷ checks 65568 0 27 0 ∷ shows 65567 22 []
+    ∷ shows 65568 27 [] ∷ answers (Left 2147483655) 13 0 ∷ pokes 1 1 ∷ answers (Left 65568) 20 0 ∷ [])
+    (freshHeap 5) ≡ true
+unfolding holdAt
+which-missing = refl
 
 -- lengths that are no heap's: 48 bytes, and a table of one entry too many
 wrong-arena : holdAt (answers (Get 1) 8 0 ∷ freshens 8 ∷ checks 65536 0 8 0 ∷ shows 65536 8 [] ∷ []) (heapOf (replicate 48 7) (replicate 3 0)) ≡ true

@@ -2,6 +2,7 @@ pub mod Views
 pub mod Rules
 pub mod Changes
 pub mod Effects
+pub mod MissingKinds
 pub mod Heaps
 pub mod Inner
 pub mod Answers

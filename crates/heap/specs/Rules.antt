@@ -1,11 +1,12 @@
--- Document 01, "Refused by the input" and "Refused by the state": the refusals of each call, in the order in which they are judged.
+-- Document 01, "Refused by the input" and "Refused by the state", with request 6 of document 02: the refusals of each call, in the order in which they are
+-- judged.
 use Prim.Native.Nat.{ℕ, _^_}
 use mathlib.Core.Bool.{Bool, false, not, _||_}
 use mathlib.Core.List.{List, [], _∷_, _++_}
 use lib.Dec.{leb, ltb, eqb}
 use Rattle.common.specs.Refusals.{Refusal, _when_}
 use Rattle.blocks.specs.Blocks.{missing}
-use Rattle.blocks.specs.Pointers.{marked, address, exactSum, inReach}
+use Rattle.blocks.specs.Pointers.{marked, address, sought, outsideAt, exactSum, inReach}
 use Rattle.blocks.specs.declared.Referent.{Referent}
 use Rattle.blocks.specs.declared.Referent.the-variants.{Missing, Found}
 use Rattle.heap.specs.Views.{View, referentOfPointer, leftFrom, placeFor, noPlace}
@@ -30,15 +31,21 @@ argumentRules m (Left p) = plainRules p
 argumentRules m (Copy p q n) = 13 when (marked p || marked q) ∷ []
 argumentRules m (Fill p v n) = plainRules p
 
+-- a pointer's referent is sought outside the arena
+abbrev pub outsideArena : View → ℕ → Bool
+outsideArena w p = outsideAt (w .order) (sought (w .slot) p)
+
+-- it has none
 abbrev pub dead : View → ℕ → Bool
 dead w p = missing (referentOfPointer w p)
 
--- What refuses a pointer by the state, in every call that needs its referent: it has none. In copy it is enough that one of the two has none.
+-- What refuses a pointer by the state, in every call that needs its referent: it is sought outside the arena, else at a free slot. In copy the number
+-- decides and not the pointer.
 abbrev pub homeRules : View → ℕ → List Refusal
-homeRules w p = 22 when dead w p ∷ []
+homeRules w p = 27 when outsideArena w p ∷ 22 when dead w p ∷ []
 
 abbrev pub bothHomes : View → ℕ → ℕ → List Refusal
-bothHomes w p q = 22 when (dead w p || dead w q) ∷ []
+bothHomes w p q = 27 when (outsideArena w p || outsideArena w q) ∷ 22 when (dead w p || dead w q) ∷ []
 
 abbrev pub not-start : Referent → ℕ → Bool
 not-start Missing p = false
@@ -48,7 +55,7 @@ not-start (Found s e) p = not (eqb s p)
 abbrev pub beyond : View → ℕ → ℕ → Bool
 beyond w p i = not (w .inside p i || inReach (w .slot) (referentOfPointer w p) (exactSum (address p) i))
 
--- By the state: no place, no referent, not a block's start, beyond the reach, past the referent's end.
+-- By the state: no place, no referent, not a block's start, beyond the reach, past the referent's end (21, 27, 22, 23, 24, 25).
 unfoldable pub stateRules : Call → View → List Refusal
 stateRules (Get n) w = 21 when noPlace (placeFor n w) ∷ []
 stateRules (Give p) w = homeRules w p ++ (23 when not-start (referentOfPointer w p) p ∷ [])
@@ -59,10 +66,10 @@ stateRules (Left p) w = homeRules w p
 stateRules (Copy p q n) w = bothHomes w p q
 stateRules (Fill p v n) w = homeRules w p
 
--- All of them: 8, the arguments' (10 to 13), 20, the state's (21 to 25).
+-- All of them: 8, the arguments' (10 to 13), 20, the state's.
 unfoldable pub rules : Call → View → List Refusal
 rules c w = 8 when w .wrong-sizes ∷ (argumentRules (w .order) c ++ (20 when w .damaged ∷ stateRules c w))
 
--- Of check and show, which are in no list of calls: 8, 13, 20, 22, which are left's too (`address-left` in heap/proofs).
+-- Of check and show, which are in no list of calls: 8, 13, 20, 27, 22, which are left's too (`address-left` in heap/proofs).
 unfoldable pub addressRules : View → ℕ → List Refusal
 addressRules w p = 8 when w .wrong-sizes ∷ (plainRules p ++ (20 when w .damaged ∷ homeRules w p))

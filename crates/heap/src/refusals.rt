@@ -117,8 +117,14 @@ pub fn locate(table: &[u8], t: u32, m: u32, p: u32) -> Located
     requires { ⌜ (1 ≤ t) × (t ≤ m) × (m ≤ 16) × (length (now table) ≡ 2 ^ (m - t)) × (damagedBy t m (now table) ≡ false) ⌝ }
     ensures { λ r. ⌜ r ≡ located (heapView t m (heapOf [] (now (table .entry)))) p ⌝ }
 {
-    match blocks::pointer_referent(table, t, m, p) {
-        Referent::Missing => Located::Refused(22),
+    let h = blocks::sought_address(t, p);
+    match blocks::referent_in(table, t, m, h) {
+        Referent::Missing => {
+            if blocks::is_outside(table, t, m, h) {
+                return Located::Refused(27);
+            }
+            Located::Refused(22)
+        }
         Referent::Found(s, e) => Located::Inside(s, e),
     }
 }

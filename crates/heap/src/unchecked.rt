@@ -1,5 +1,5 @@
 // The calls once their input has been judged: the lengths fit, the table is undamaged, the arguments are in range. What is left to refuse
-// depends on the blocks (21 to 25). A slot has 2^t bytes. A run calls `call`, and never scans the table.
+// depends on the blocks (21, 27, 22 to 25). A slot has 2^t bytes. A run calls `call`, and never scans the table.
 use crate::Answer;
 use crate::Call;
 use crate::answers::accepted;
@@ -159,7 +159,7 @@ pub fn left(arena: &[u8], table: &[u8], t: u32, m: u32, p: u32) -> Answer
     }
 }
 
-// Either pointer's refusal refuses the copy; one that leads to a block counts as 0.
+// Either pointer's refusal refuses the copy. The greater number counts, since 27 is judged before 22; a pointer that leads to a block counts as 0.
 pub fn copy(arena: &mut [u8], table: &[u8], t: u32, m: u32, p: u32, q: u32, n: u32) -> Answer
     requires { ⌜ Ready t m (Call.Copy p q n) (now arena) (now table) ⌝ }
     ensures { λ r. ⌜ outcome r (now (arena .exit)) (now (table .entry)) ≡ heapStep t m (Call.Copy p q n) (heapOf (now (arena .entry)) (now (table .entry))) ⌝ }

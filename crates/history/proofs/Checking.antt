@@ -18,6 +18,7 @@ use Rattle.blocks.specs.Pointers.{markBit, marked, address, sought, signed, exa
 use Rattle.blocks.specs.declared.Referent.the-variants.{Found}
 use Rattle.common.proofs.Booleans.{and-left, and-right, or-cases}
 use Rattle.blocks.proofs.Floors.{pow-split}
+use Rattle.blocks.proofs.Outside.{held-inside}
 use Rattle.blocks.proofs.Sets.{held-high, missing-none, member-found}
 use Rattle.blocks.proofs.Slots.{slots-of}
 use Rattle.heap.specs.Views.{View}
@@ -179,7 +180,8 @@ module _ {t m : ℕ} (os : Orders t m) (h : Heap) (l : Ledger) (agree : Agree t 
     check-by-ledger : (i : ℕ)
         → checked q i (ledgerView t m l) ≡ record { answer = accepted (bit (within (Found (b .start) (b .order)) (exactSum q i))); state = h }
     unfolding addressRules sought
-    check-by-ledger i = rw (lt-leb markBit q low-address, member-found t m (l .pairs) (proper-set (agree .proper)) b q member held)
+    check-by-ledger i =
+        rw (lt-leb markBit q low-address, held-inside t m b aligned q held, member-found t m (l .pairs) (proper-set (agree .proper)) b q member held)
 
     pub check-is : (i : ℕ) → checkStep t m q i h ≡ accepted (bit (within (Found (b .start) (b .order)) (exactSum q i)))
     unfolding checkStep
@@ -195,7 +197,9 @@ module _ {t m : ℕ} (os : Orders t m) (h : Heap) (l : Ledger) (agree : Agree t 
 
       step-by-ledger : stepped (markBit + r) (distance r q) (ledgerView t m l) ≡ record { answer = accepted q; state = h }
       unfolding rules argumentRules stateRules value stored entered within
-      step-by-ledger = rw (back .seeks, member-found t m (l .pairs) (proper-set (agree .proper)) b (back .at) member (back .held), exact, held)
+      step-by-ledger =
+          let found = member-found t m (l .pairs) (proper-set (agree .proper)) b (back .at) member (back .held) in
+          rw (back .seeks, held-inside t m b aligned (back .at) (back .held), found, exact, held)
 
       pub recovers : heapStep t m (Step (markBit + r) (distance r q)) h ≡ record { answer = accepted q; state = h }
       unfolding heapStep

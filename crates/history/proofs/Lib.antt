@@ -9,6 +9,7 @@ pub mod Simulation
 pub mod CallLists
 pub mod Checking
 pub mod Room
+pub mod MissingKinds
 pub mod Demand3
 pub mod Encoding
 pub mod Replaying

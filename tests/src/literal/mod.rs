@@ -5,7 +5,7 @@
 mod takes;
 
 use crate::call::Call;
-use crate::ledger::{damaged, sought, Ledger, Pair};
+use crate::ledger::{damaged, first, sought, Ledger, Pair};
 use crate::record::Record;
 use crate::subject::{Answer, Part, Place, Ran, Subject};
 
@@ -38,8 +38,7 @@ fn made(call: Call, arena: &mut [u8], table: &mut [u8]) -> Answer {
     let mut heap = ledger(arena, table, m);
     let mut refusals = heap.refusals(call);
     refusals.push((20, damaged(table, m)));
-    let lowest = refusals.iter().filter(|(_, applies)| *applies).map(|(number, _)| *number).min();
-    if let Some(number) = lowest {
+    if let Some(number) = first(&refusals) {
         return Answer { number, value: 0 };
     }
     let answer = heap.feed(call);
@@ -105,8 +104,8 @@ impl Subject for Literal {
         if left.number != 0 {
             return left;
         }
-        let heap = ledger(arena, table, order(arena, table).expect("not refused 8"));
-        let home = heap.home(h).expect("not refused 22");
+        let heap = ledger(arena, table, order(arena, table).expect("left was not refused"));
+        let home = heap.home(h).expect("left was not refused");
         let inside = home.holds(sought(h) + i64::from(i as i32));
         Answer { number: 0, value: u32::from(inside) }
     }

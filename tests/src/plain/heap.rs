@@ -83,15 +83,16 @@ pub fn damaged(table: &[u8], m: u32) -> bool {
     false
 }
 
-/// The live block that holds a plain address.
+/// The live block that holds a plain address. The table has an entry for each slot of the arena and for no other.
 fn block_at(table: &[u8], address: u32) -> Result<Block, Refusal> {
     let offset = address.wrapping_sub(BASE) as usize;
     match table.get(offset / SLOT) {
-        Some(&entry) if entry != 0 => {
+        None => Err(Outside),
+        Some(0) => Err(FreeSlot),
+        Some(&entry) => {
             let order = u32::from(entry);
             Ok(Block { start: offset >> order << order, order })
         }
-        _ => Err(NoReferent),
     }
 }
 
@@ -101,7 +102,7 @@ fn referent(table: &[u8], p: u32) -> Result<Block, Refusal> {
     if p == address {
         block_at(table, address)
     } else if address % 16 < 8 {
-        block_at(table, address.checked_sub(16).ok_or(NoReferent)?)
+        block_at(table, address.checked_sub(16).ok_or(Outside)?)
     } else {
         block_at(table, address + 16)
     }
@@ -112,6 +113,15 @@ fn place(table: &[u8], p: u32) -> Result<(usize, usize), Refusal> {
     let block = block_at(table, p)?;
     let at = (p - BASE) as usize;
     Ok((at, block.end() - at))
+}
+
+/// The places of a copy's two pointers: one outside the arena is told before one at a free slot, whichever it is.
+fn places(table: &[u8], p: u32, q: u32) -> Result<[(usize, usize); 2], Refusal> {
+    match (place(table, p), place(table, q)) {
+        (Ok(to), Ok(from)) => Ok([to, from]),
+        (Err(Outside), _) | (_, Err(Outside)) => Err(Outside),
+        (Err(refusal), _) | (_, Err(refusal)) => Err(refusal),
+    }
 }
 
 /// The first slot of the smallest maximal free range of at least `order`, of equals the lowest.
@@ -254,8 +264,7 @@ pub fn copy<const KNOWN: bool>(arena: &mut [u8], table: &[u8], p: u32, q: u32, n
     plain(p)?;
     plain(q)?;
     intact::<KNOWN>(table, m)?;
-    let (to, room) = place(table, p)?;
-    let (from, held) = place(table, q)?;
+    let [(to, room), (from, held)] = places(table, p, q)?;
     let count = room.min(held).min(n as usize);
     arena.copy_within(from..from + count, to);
     Ok(count as u32)

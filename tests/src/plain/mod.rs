@@ -25,11 +25,12 @@ pub enum Refusal {
     Marked = 13,
     Damaged = 20,
     NoFreeRange = 21,
-    NoReferent = 22,
+    FreeSlot = 22,
     NotTheStart = 23,
     BeyondReach = 24,
     PastTheEnd = 25,
     TooManyRecords = 26,
+    Outside = 27,
 }
 
 impl Refusal {
