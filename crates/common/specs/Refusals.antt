@@ -13,7 +13,11 @@ abbrev pub first : List Refusal → ℕ
 first [] = 0
 first ((n when b) ∷ rs) = cond b n (first rs)
 
+-- one of the numbers passes the test
+abbrev pub anyOf : (ℕ → Bool) → List ℕ → Bool
+anyOf f [] = false
+anyOf f (n ∷ ns) = f n || anyOf f ns
+
 -- a number is one of these
 abbrev pub isOneOf : List ℕ → ℕ → Bool
-isOneOf [] x = false
-isOneOf (n ∷ ns) x = eqb n x || isOneOf ns x
+isOneOf ns x = anyOf (λ n. eqb n x) ns

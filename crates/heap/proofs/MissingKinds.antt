@@ -9,7 +9,7 @@ use mathlib.Core.List.{List, [], _∷_}
 use native.Mathlib.Omega.{arith}
 use lib.IntN.{ℤ, pos, negsuc}
 use lib.ListN.{length}
-use Rattle.common.specs.Refusals.{Refusal, first, isOneOf}
+use Rattle.common.specs.Refusals.{Refusal, first, anyOf, isOneOf}
 use Rattle.blocks.specs.Blocks.{base, missing}
 use Rattle.blocks.specs.Tables.{freeIn, referentIn}
 use Rattle.blocks.specs.Orders.{smallestArena}
@@ -17,7 +17,7 @@ use Rattle.blocks.specs.Pointers.{sought, referentAt, outsideAt}
 use Rattle.heap.specs.Views.{View, slotOrder}
 use Rattle.heap.specs.Rules.{outsideArena, dead, argumentRules, stateRules, rules, addressRules}
 use Rattle.heap.specs.Heaps.{Heap, heapView, viewOf, heapStep, heapCall, pointerNumber, bit, checkStep, heapCheck}
-use Rattle.heap.specs.MissingKinds.{pointersOf, anyOf, freeAt, atFreeSlot, judgedBefore, Tells}
+use Rattle.heap.specs.MissingKinds.{pointersOf, freeAt, atFreeSlot, judgedBefore, Tells}
 use Rattle.heap.specs.declared.Call.{Call}
 use Rattle.heap.specs.declared.Call.the-variants.{Get, Give, Step, Read, Write, Left, Copy, Fill}
 use Rattle.common.proofs.Booleans.{and-right, or-cases, or-right, or-false-left, or-false-right}

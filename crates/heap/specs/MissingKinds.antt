@@ -1,10 +1,10 @@
 -- Request 6, "Which kind of missing": what 27 and 22 tell of a call's pointers, by a view, so by a table and by the ledger's pairs alike.
 use Prim.Native.Nat.{ℕ, _-_, _/_, _^_}
 use mathlib.Core.Path.{_≡_}
-use mathlib.Core.Bool.{Bool, true, false, not, _&&_, _||_}
+use mathlib.Core.Bool.{Bool, true, false, not, _&&_}
 use mathlib.Core.List.{List, [], _∷_}
 use lib.IntN.{ℤ, pos, negsuc}
-use Rattle.common.specs.Refusals.{isOneOf}
+use Rattle.common.specs.Refusals.{anyOf, isOneOf}
 use Rattle.blocks.specs.Blocks.{base}
 use Rattle.blocks.specs.Pointers.{sought, outsideAt}
 use Rattle.heap.specs.Views.{View}
@@ -21,11 +21,6 @@ pointersOf (Write p k v) = p ∷ []
 pointersOf (Left p) = p ∷ []
 pointersOf (Copy p q n) = p ∷ q ∷ []
 pointersOf (Fill p v n) = p ∷ []
-
--- one of the pointers passes the test
-abbrev pub anyOf : (ℕ → Bool) → List ℕ → Bool
-anyOf f [] = false
-anyOf f (p ∷ ps) = f p || anyOf f ps
 
 -- an exact address lies inside the arena, in a slot that is free
 abbrev pub freeAt : View → ℤ → Bool

@@ -35,7 +35,7 @@ argumentRules m (Fill p v n) = plainRules p
 abbrev pub outsideArena : View → ℕ → Bool
 outsideArena w p = outsideAt (w .order) (sought (w .slot) p)
 
--- it has none
+-- it has no referent
 abbrev pub dead : View → ℕ → Bool
 dead w p = missing (referentOfPointer w p)
 

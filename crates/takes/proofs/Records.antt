@@ -89,11 +89,11 @@ taken-apart e = (sym (ap operation e), sym (ap (λ (r : Record). padded (fields 
 
 -- The writer's returns, op and vs being the record taken apart.
 module _ (r : Record) (out : List ℕ) (op : ℕ) (vs : List ℕ) (taken : (op ≡ operation r) × (vs ≡ padded (fields r))) where
-  pub part-known : known op ≡ true
-  part-known = rw (taken .0) (sound r .in-table)
+  pub values-known : known op ≡ true
+  values-known = rw (taken .0) (sound r .in-table)
 
-  pub part-columns : length vs ≡ columns
-  part-columns = rw (taken .1) (sound r .columns)
+  pub values-columns : length vs ≡ columns
+  values-columns = rw (taken .1) (sound r .columns)
 
   high-is : highRegister (kindsOf op) vs ≡ highRegister (kindsOf (operation r)) (fields r)
   high-is = rw (taken .0, taken .1) (sound r .padded-high)

@@ -11,7 +11,7 @@ use Rattle.takes.specs.Operations.{known, kindsOf, lengthOf}
 use Rattle.takes.specs.Reading.{highRegister}
 use Rattle.takes.specs.Inner.{columns, digits}
 use Rattle.takes.proofs.Operations.{row-length, row-kinds}
-use Rattle.takes.proofs.Records.{part-known, part-columns, write-high, write-short, write-done}
+use Rattle.takes.proofs.Records.{values-known, values-columns, write-high, write-short, write-done}
 use Rattle.takes.proofs.writer.write_record.Statement.{statement}
 use Rattle.takes.proofs.writer.write_record.Tie as tie
 
@@ -23,26 +23,26 @@ row-of-requires c κs = search needs
 
 -- the record taken apart, and its row
 module _ (c : tie.After-row-of) where
-  abbrev parts : tie.After-values-of
-  parts = c .before
+  abbrev valued : tie.After-values-of
+  valued = c .before
 
   abbrev start : tie.Start
-  start = parts .before .before
+  start = valued .before .before
 
   abbrev lent : List ℕ
   lent = start .args .out .now
 
   abbrev op : ℕ
-  op = parts .values-of .result .op
+  op = valued .values-of .result .op
 
   abbrev vs : List ℕ
-  vs = parts .values-of .result .values
+  vs = valued .values-of .result .values
 
   known-op : known op ≡ true
-  known-op = part-known (start .args .r) lent op vs (parts .values-of .ensures)
+  known-op = values-known (start .args .r) lent op vs (valued .values-of .ensures)
 
   all-columns : length vs ≡ columns
-  all-columns = part-columns (start .args .r) lent op vs (parts .values-of .ensures)
+  all-columns = values-columns (start .args .r) lent op vs (valued .values-of .ensures)
 
   length-is : c .row-of .result % 256 ≡ lengthOf op
   length-is = row-length op (c .row-of .result) (c .row-of .ensures) known-op
@@ -57,7 +57,7 @@ returns : tie.Need-returns
 returns c =
     let h = c .before in
     let p = h .before in
-    write-high (start p .args .r) (lent p) (op p) (vs p) (parts p .values-of .ensures) (sym (c .if1 .taken) ∙ h .high-in-values .ensures)
+    write-high (start p .args .r) (lent p) (op p) (vs p) (valued p .values-of .ensures) (sym (c .if1 .taken) ∙ h .high-in-values .ensures)
 
 -- no register is high
 module _ (c : tie.Else1) where
@@ -77,7 +77,7 @@ returns-2 : tie.Need-returns-2
 returns-2 c =
     let e = c .before in
     let p = row e in
-    write-short (start p .args .r) (lent p) (op p) (vs p) (parts p .values-of .ensures) (low e) (omega (arith, length-is p))
+    write-short (start p .args .r) (lent p) (op p) (vs p) (valued p .values-of .ensures) (low e) (omega (arith, length-is p))
 
 cast-out : tie.Need-cast-out
 cast-out c = search needs
@@ -101,7 +101,7 @@ returns-3 c =
     let f = c .before .before in
     let e = f .before .before .before in
     let p = row e in
-    write-done (start p .args .r) (lent p) (op p) (vs p) (parts p .values-of .ensures) (low e) (p .row-of .result % 256) (f .put-fields .last .0)
+    write-done (start p .args .r) (lent p) (op p) (vs p) (valued p .values-of .ensures) (low e) (p .row-of .result % 256) (f .put-fields .last .0)
     (length-is p) (omega arith) (f .put-fields .ensures)
 
 pub write-record-spec : {M : Type 1} → statement M
