@@ -5,7 +5,7 @@ use mathlib.Core.List.{List, [], _∷_}
 use mathlib.Core.Path.{_≡_, refl}
 use lib.IntN.{pos, negsuc}
 use Rattle.blocks.specs.Blocks.{Block, floor}
-use Rattle.blocks.specs.Tables.{any, torn, bad, damagedBy, freeIn, referentIn}
+use Rattle.blocks.specs.Tables.{any, entryOrder, torn, bad, damagedBy, freeIn, referentIn}
 use Rattle.blocks.specs.Sets.{referentOf, entriesFrom, tableOf, blocksFrom, blocksOf}
 use Rattle.blocks.specs.Pointers.{sought, signed, exactSum}
 use Rattle.blocks.specs.Orders.{orderOf, neededOrder}
@@ -15,7 +15,7 @@ use Rattle.blocks.specs.declared.Place.the-variants.{At, Nothing}
 use Rattle.blocks.specs.declared.Referent.the-variants.{Missing, Found}
 
 damage : List ℕ → Bool
-unfolding any torn bad damagedBy floor
+unfolding any entryOrder torn bad damagedBy floor
 damage s = damagedBy 4 6 s
 
 -- a block of two slots, a free slot and a block of one
@@ -52,11 +52,11 @@ unfolding blocksFrom
 read-back = refl
 
 in-block : referentIn 4 (5 ∷ 5 ∷ 0 ∷ 4 ∷ []) 65560 ≡ Found 65536 5
-unfolding referentIn floor
+unfolding entryOrder referentIn floor
 in-block = refl
 
 in-free-slot : referentIn 4 (5 ∷ 5 ∷ 0 ∷ 4 ∷ []) 65568 ≡ Missing
-unfolding referentIn floor
+unfolding entryOrder referentIn floor
 in-free-slot = refl
 
 -- eight before the arena leads up, eight past a block's end down, and an address below 16 to a negative one

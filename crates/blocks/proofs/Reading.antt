@@ -23,7 +23,7 @@ use Rattle.blocks.proofs.Referents.{referent-entry}
 use Rattle.blocks.proofs.Sets.{round-held, found-member, member-found, found-aligned}
 use Rattle.blocks.proofs.SetTables.{table-length, table-entry, table-taken}
 use Rattle.blocks.proofs.Slots.{block, slotOf, slot-start, Slots, slots-of, aligned-of, slots-round, held-slots, slots-held}
-use Rattle.blocks.proofs.Tables.{Whole, undamaged-whole}
+use Rattle.blocks.proofs.Tables.{Whole, order-of-entry, undamaged-whole}
 
 -- b is read at slot `at` of the slots from i on: its order is the entry, and the slot's number a multiple of the block's slots
 pub record Read (t i : ℕ) (s : List ℕ) (b : Block) : Type 0 where
@@ -147,8 +147,8 @@ module _ (t m : ℕ) (one : 1 ≤ t) (s : List ℕ) (len : length s ≡ 2 ^ (m -
     r : Read t 0 s b
     r = read-out t b 0 s h
 
-    whole : Whole t m s (r .at) (b .order)
-    whole = undamaged-whole t m s good (r .at) (b .order) (r .inside) (r .entry) (r .taken)
+    whole : Whole t m s (r .at) (b .order) (b .order)
+    whole = undamaged-whole t m s good (r .at) (b .order) (b .order) (r .inside) (r .entry) (order-of-entry (b .order)) (r .taken)
 
     start-at : b .start ≡ base + floor (b .order - t) (r .at) * 2 ^ t
     start-at =
@@ -185,7 +185,7 @@ module _ (t m : ℕ) (one : 1 ≤ t) (s : List ℕ) (len : length s ≡ 2 ^ (m -
       }
 
   -- the block round a taken slot i, whose entry is e
-  module _ (i e : ℕ) (l : i < length s) (w : Whole t m s i e) (n : e ≡ 0 → ⊥) where
+  module _ (i e : ℕ) (l : i < length s) (w : Whole t m s i e e) (n : e ≡ 0 → ⊥) where
     abbrev round : Block
     round = block (base + floor (e - t) i * 2 ^ t) e
 
@@ -221,5 +221,5 @@ module _ (t m : ℕ) (one : 1 ≤ t) (s : List ℕ) (len : length s ≡ 2 ^ (m -
       not-taken i h (suc e) q (no d) = sym q ∙ List·getD-eq-default s 0 (omega arith)
       not-taken i h (suc e) q (yes l) =
           let n : (suc e ≡ 0 → ⊥) = λ z. omega arith in
-          let w = undamaged-whole t m s good i (suc e) l q n in
+          let w = undamaged-whole t m s good i (suc e) (suc e) l q (order-of-entry (suc e)) n in
           absurd (false≢true (sym (h _ (round-read i (suc e) l w n)) ∙ round-holds i (suc e) l w n))

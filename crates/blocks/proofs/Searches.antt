@@ -13,11 +13,11 @@ use lib.ListN.{length, getD}
 use lib.Pow.{pow-pos}
 use Rattle.blocks.specs.declared.Place.{Place}
 use Rattle.blocks.specs.declared.Place.the-variants.{Nothing}
-use Rattle.blocks.specs.Tables.{damagedBy, freeIn}
+use Rattle.blocks.specs.Tables.{entryOrder, damagedBy, freeIn}
 use Rattle.blocks.specs.Placing.{allFree, placeIn}
 use Rattle.blocks.specs.Inner.{bitsOf, asFree, decidedBy, PartOf, keyOf}
 use Rattle.blocks.proofs.Floors.{floor-le, lt-floor, floor-quotient, pow-split}
-use Rattle.blocks.proofs.Tables.{undamaged-whole}
+use Rattle.blocks.proofs.Tables.{order-taken, undamaged-whole}
 use Rattle.blocks.proofs.Bits.{bits-none, bits-all, all-bits}
 use Rattle.blocks.proofs.FreeRuns.{all-at, all-stop, all-same}
 use Rattle.blocks.proofs.Halves.{smallerOf, doubled, place-whole, place-none, place-halves}
@@ -201,9 +201,11 @@ module _ {t k from : ℕ} {s p : List ℕ} (r : PartOf t s from k p) where
   first-entry = rw add-zero at (r .entries 0 (pow-pos (k - t)))
 
   -- a part that lies in a block
-  pub in-block : (x : ℕ) → x ≡ getD p 0 0 → (x ≡ 0 → ⊥) → t < k → k ≤ x → (i : ℕ) → i < 2 ^ (k - t) → freeIn s (from + i) ≡ false
-  in-block x h z o l i lt =
-      let w = undamaged-whole t (r .top) s (r .whole) from x (omega (arith, r .inside, pow-pos (k - t))) (sym (h ∙ first-entry)) z in
+  pub in-block : (x : ℕ) → x ≡ entryOrder (getD p 0 0) → t < k → k ≤ x → (i : ℕ) → i < 2 ^ (k - t) → freeIn s (from + i) ≡ false
+  in-block x h o l i lt =
+      let says : entryOrder (getD s from 0) ≡ x = ap entryOrder (sym first-entry) ∙ sym h in
+      let z = order-taken (getD s from 0) (λ g. omega (arith, says)) in
+      let w = undamaged-whole t (r .top) s (r .whole) from _ x (omega (arith, r .inside, pow-pos (k - t))) refl says z in
       let start = floor-quotient (x - t) from in
       let begins = r .place in
       let ends = part-ends (x - t) (k - t) (from / 2 ^ (x - t)) (r .index) (omega arith) (omega (arith, lt-floor (x - t) from)) in
@@ -220,7 +222,7 @@ module _ {t k from : ℕ} {s p : List ℕ} (r : PartOf t s from k p) where
       sym (part-free i l) ∙ not-true _ taken
 
   -- one that is not told to be so is not all free
-  pub not-uniform : (x : ℕ) → x ≡ getD p 0 0 → leb x (t + 4) && allFree (asFree p (eqb x 0)) 0 (2 ^ (k - t)) ≡ false
+  pub not-uniform : (x : ℕ) → x ≡ entryOrder (getD p 0 0) → leb x (t + 4) && allFree (asFree p (eqb x 0)) 0 (2 ^ (k - t)) ≡ false
       → allFree (freeIn s) from (2 ^ (k - t)) ≡ false
   not-uniform x h g = go (eqb x 0) refl g
     where
@@ -228,4 +230,6 @@ module _ {t k from : ℕ} {s p : List ℕ} (r : PartOf t s from k p) where
       go true z g =
           let small : leb x (t + 4) ≡ true = le-leb x (t + 4) (omega (arith, eqb-true x 0 z)) in
           sym (all-same (freeIn p) (freeIn s) 0 from _ (λ j l. rw zero-add (part-free j l))) ∙ (rw small at g)
-      go false z g = all-stop (freeIn s) from _ (pow-pos (k - t)) (rw (← first-entry, ← h) z)
+      go false z g =
+          let taken = order-taken (getD p 0 0) (λ y. eqb-false x 0 z (h ∙ y)) in
+          all-stop (freeIn s) from _ (pow-pos (k - t)) (rw (← first-entry) (ne-eqb _ 0 taken))

@@ -22,7 +22,7 @@ use Rattle.blocks.proofs.Floors.{floor-le, lt-floor, pow-split, floor-m
 use Rattle.blocks.proofs.Referents.{referent-below, referent-past, referent-entry}
 use Rattle.blocks.proofs.Sets.{found-member, missing-none, none-missing, member-found, found-aligned, found-round, outside-missing, referent-slot}
 use Rattle.blocks.proofs.Slots.{block, slotOf, slot-start, slots-of, held-slots, slots-held}
-use Rattle.blocks.proofs.Tables.{Good, Whole, undamaged, free-good, whole-good}
+use Rattle.blocks.proofs.Tables.{Good, Whole, order-of-entry, undamaged, free-good, whole-good}
 
 entries-length : (t : ℕ) (bs : List Block) (a k : ℕ) → length (entriesFrom t bs a k) ≡ k
 unfolding entriesFrom
@@ -93,7 +93,7 @@ module _ (t m : ℕ) (one : 1 ≤ t) (le : t ≤ m) (bs : List Block) (set : Blo
           referent-past t (tableOf t m bs) q l (omega (arith, table-length t m bs)) ∙ sym (outside-missing t m bs set q (inr (omega (arith, size))))
 
   -- the aligned range round a taken slot is its block, and each of the block's slots has its order
-  taken-whole : (i s e : ℕ) → referentOf bs (base + i * 2 ^ t) ≡ Found s e → Whole t m (tableOf t m bs) i e
+  taken-whole : (i s e : ℕ) → referentOf bs (base + i * 2 ^ t) ≡ Found s e → Whole t m (tableOf t m bs) i e e
   taken-whole i s e h =
       let a = found-aligned t m bs set _ s e h in
       let z = slots-of t m (block s e) a in
@@ -103,6 +103,7 @@ module _ (t m : ℕ) (one : 1 ≤ t) (le : t ≤ m) (bs : List Block) (set : Blo
       let f : floor (e - t) i ≡ z .first =
       floor-multiple (e - t) (z .index) i (omega (arith, j .low, z .multiple)) (omega (arith, j .high, z .multiple)) ∙ sym (z .multiple) in
       record {
+        order = order-of-entry e;
         low = a .low;
         high = a .high;
         entries = λ k lo hi.
@@ -118,7 +119,7 @@ module _ (t m : ℕ) (one : 1 ≤ t) (le : t ≤ m) (bs : List Block) (set : Blo
       go Missing h = free-good t m (tableOf t m bs) i (table-free i h)
       go (Found s e) h =
           let w = taken-whole i s e h in
-          whole-good t m (tableOf t m bs) i e (λ z. omega (arith, w .low)) w i (floor-le (e - t) i) (lt-floor (e - t) i)
+          whole-good t m (tableOf t m bs) i e e (λ z. omega (arith, w .low)) w i (floor-le (e - t) i) (lt-floor (e - t) i)
 
   pub table-undamaged : damagedBy t m (tableOf t m bs) ≡ false
   table-undamaged = undamaged t m (tableOf t m bs) (λ i l. slot-good i)

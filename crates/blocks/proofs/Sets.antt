@@ -16,6 +16,7 @@ use Rattle.common.proofs.Booleans.{and-left, and-right}
 use Rattle.blocks.proofs.Floors.{floor-multiple}
 use Rattle.blocks.proofs.Referents.{round-some}
 use Rattle.blocks.proofs.Slots.{block, slotOf, slot-start, slots-of, held-slots, slots-held}
+use Rattle.blocks.proofs.Tables.{order-of-entry}
 
 pub held-low : (b : Block) (q : ℕ) → holds b q ≡ true → b .start ≤ q
 held-low b q h = leb-true (b .start) q (and-left _ _ h)
@@ -29,7 +30,7 @@ round-held t m b one a q h =
     let lo = held-low b q h in
     let hi = held-high b q h in
     let p : b .start ≡ base + a .index * 2 ^ b .order = a .place in
-    round-some (b .order) q (λ z. omega (arith, a .low))
+    round-some (b .order) (b .order) q (λ z. omega (arith, a .low)) (order-of-entry (b .order))
     ∙ ap (λ (x : ℕ). Found x (b .order)) (ap (λ (x : ℕ). base + x) (floor-multiple (b .order) (a .index) (q - base) (omega arith) (omega arith)) ∙ sym p)
 
 -- the block is one of the list, and holds the address

@@ -7,10 +7,10 @@ use mathlib.Core.Path.{_≡_, refl, sym, _∙_, ap, subst}
 use native.Mathlib.Nat.{not-suc-le-zero, eq-or-lt-of-le, le-of-suc-le-suc, add-sub-of-le, le-refl}
 use native.Mathlib.Omega.{arith}
 use borrow.Author.Tests.{le-leb, eq-eqb, ne-eqb, leb-true, eqb-true, not-false}
-use lib.Dec.{leb}
+use lib.Dec.{eqb, leb}
 use lib.ListN.{length, getD}
 use Rattle.blocks.specs.Blocks.{floor}
-use Rattle.blocks.specs.Tables.{any, torn, bad, damagedBy}
+use Rattle.blocks.specs.Tables.{any, entryOrder, entryOf, torn, bad, damagedBy}
 use Rattle.common.proofs.Booleans.{and-left, and-right, or-right, or-false-left, or-false-right}
 use Rattle.blocks.proofs.Floors.{floor-same}
 
@@ -37,20 +37,35 @@ module _ (test : ℕ → Bool) where
       go true e = absurd (true≢false (sym (any-true n k l e) ∙ a))
       go false e = refl
 
--- the aligned range round slot i has the entry e in each slot, and e is an order
-pub record Whole (t m : ℕ) (s : List ℕ) (i e : ℕ) : Type 0 where
+-- the entry x says an order e, and the aligned range of that order round slot i has it in each slot
+pub record Whole (t m : ℕ) (s : List ℕ) (i x e : ℕ) : Type 0 where
+  pub order : entryOrder x ≡ e
   pub low : t ≤ e
   pub high : e ≤ m
-  pub entries : (k : ℕ) → floor (e - t) i ≤ k → k < floor (e - t) i + 2 ^ (e - t) → getD s k 0 ≡ e
+  pub entries : (k : ℕ) → floor (e - t) i ≤ k → k < floor (e - t) i + 2 ^ (e - t) → getD s k 0 ≡ x
+
+-- the entry of a block says its order
+pub order-of-entry : (e : ℕ) → entryOrder (entryOf e) ≡ e
+unfolding entryOrder
+order-of-entry e = refl
+
+-- a free slot says no order
+pub free-order : entryOrder 0 ≡ 0
+unfolding entryOrder
+free-order = refl
+
+-- an entry that says an order is no free slot's
+pub order-taken : (x : ℕ) → (entryOrder x ≡ 0 → ⊥) → x ≡ 0 → ⊥
+order-taken x n z = n (ap entryOrder z ∙ free-order)
 
 module _ (t m : ℕ) (s : List ℕ) where
   -- slot i is good
   abbrev pub Good : ℕ → Type 0
   Good i = bad t m s i (getD s i 0) ≡ false
 
-  pub damaged-at : (i e : ℕ) → i < length s → e ≡ getD s i 0 → bad t m s i e ≡ true → damagedBy t m s ≡ true
+  pub damaged-at : (i x : ℕ) → i < length s → x ≡ getD s i 0 → bad t m s i x ≡ true → damagedBy t m s ≡ true
   unfolding damagedBy
-  damaged-at i e h q b = any-true (λ i. bad t m s i (getD s i 0)) (length s) i h (rw q at b)
+  damaged-at i x h q b = any-true (λ i. bad t m s i (getD s i 0)) (length s) i h (rw q at b)
 
   pub undamaged : ((i : ℕ) → i < length s → Good i) → damagedBy t m s ≡ false
   unfolding damagedBy
@@ -64,31 +79,32 @@ module _ (t m : ℕ) (s : List ℕ) where
   unfolding bad
   free-good i e = rw (eq-eqb _ _ e)
 
-  pub order-bad : (i e : ℕ) → (e ≡ 0 → ⊥) → leb t e && leb e m ≡ false → bad t m s i e ≡ true
+  pub order-bad : (i x e : ℕ) → entryOrder x ≡ e → (x ≡ 0 → ⊥) → leb t e && leb e m ≡ false → bad t m s i x ≡ true
   unfolding bad
-  order-bad i e n h = rw (ne-eqb e 0 n, h)
+  order-bad i x e o n h = rw (ne-eqb x 0 n, o, h)
 
-  -- in the block of slot i, whose entry is e, slot k has another
-  pub torn-bad : (i e k : ℕ) → (e ≡ 0 → ⊥) → t ≤ e → e ≤ m → floor (e - t) i ≤ k → k < floor (e - t) i + 2 ^ (e - t)
-      → (getD s k 0 ≡ e → ⊥) → bad t m s i e ≡ true
+  -- in the block of slot i, whose entry is x, slot k has another
+  pub torn-bad : (i x e k : ℕ) → entryOrder x ≡ e → (x ≡ 0 → ⊥) → t ≤ e → e ≤ m → floor (e - t) i ≤ k → k < floor (e - t) i + 2 ^ (e - t)
+      → (getD s k 0 ≡ x → ⊥) → bad t m s i x ≡ true
   unfolding bad torn
-  torn-bad i e k n h l lo hi d = rw (ne-eqb e 0 n, le-leb t e h, le-leb e m l)
+  torn-bad i x e k o n h l lo hi d = rw (ne-eqb x 0 n, o, le-leb t e h, le-leb e m l)
       (any-true _ (2 ^ (e - t)) (k - floor (e - t) i) (omega arith)
       (rw (add-sub-of-le lo, ne-eqb _ _ d)))
 
   -- where the range round slot i is whole, each of its slots is good
-  pub whole-good : (i e : ℕ) → (e ≡ 0 → ⊥) → Whole t m s i e → (j : ℕ) → floor (e - t) i ≤ j → j < floor (e - t) i + 2 ^ (e - t) → Good j
+  pub whole-good : (i x e : ℕ) → (x ≡ 0 → ⊥) → Whole t m s i x e → (j : ℕ) → floor (e - t) i ≤ j → j < floor (e - t) i + 2 ^ (e - t) → Good j
   unfolding bad torn
-  whole-good i e n w j lo hi = rw (w .entries j lo hi, ne-eqb e 0 n, le-leb t e (w .low), le-leb e m (w .high))
+  whole-good i x e n w j lo hi = rw (w .entries j lo hi, ne-eqb x 0 n, w .order, le-leb t e (w .low), le-leb e m (w .high))
       (any-false _ (2 ^ (e - t)) (λ k lt. rw (floor-same (e - t) i j lo hi, eq-eqb _ _ (w .entries (floor (e - t) i + k) (omega arith) (omega arith)))))
 
   -- and where a taken slot is good, the range round it is whole
-  pub good-whole : (i e : ℕ) → (e ≡ 0 → ⊥) → bad t m s i e ≡ false → Whole t m s i e
+  pub good-whole : (i x e : ℕ) → entryOrder x ≡ e → (x ≡ 0 → ⊥) → bad t m s i x ≡ false → Whole t m s i x e
   unfolding bad torn
-  good-whole i e n g =
-      let b : not (leb t e && leb e m) || torn t s i e ≡ false = rw (ne-eqb e 0 n) at g in
+  good-whole i x e says n g =
+      let b : not (leb t e && leb e m) || any (2 ^ (e - t)) (λ k. not (eqb (getD s (floor (e - t) i + k) 0) x)) ≡ false = rw (ne-eqb x 0 n, says) at g in
       let o : leb t e && leb e m ≡ true = not-false _ (or-false-left _ _ b) in
       record {
+        order = says;
         low = leb-true t e (and-left _ _ o);
         high = leb-true e m (and-right (leb t e) _ o);
         entries = λ k lo hi.
@@ -96,5 +112,5 @@ module _ (t m : ℕ) (s : List ℕ) where
             eqb-true _ _ (not-false _ (rw (add-sub-of-le lo) at z));
       }
 
-  pub undamaged-whole : damagedBy t m s ≡ false → (i e : ℕ) → i < length s → getD s i 0 ≡ e → (e ≡ 0 → ⊥) → Whole t m s i e
-  undamaged-whole h i e l q n = good-whole i e n (subst (λ (x : ℕ). bad t m s i x ≡ false) q (undamaged-at h i l))
+  pub undamaged-whole : damagedBy t m s ≡ false → (i x e : ℕ) → i < length s → getD s i 0 ≡ x → entryOrder x ≡ e → (x ≡ 0 → ⊥) → Whole t m s i x e
+  undamaged-whole h i x e l q o n = good-whole i x e o n (subst (λ (y : ℕ). bad t m s i y ≡ false) q (undamaged-at h i l))

@@ -8,7 +8,7 @@ use mathlib.Core.Path.{_≡_}
 use lib.Dec.{eqb, leb}
 use lib.IntN.{ℤ, pos, negsuc}
 use lib.ListN.{length, getD}
-use Rattle.blocks.specs.Tables.{damagedBy, freeIn}
+use Rattle.blocks.specs.Tables.{entryOrder, damagedBy, freeIn}
 use Rattle.blocks.specs.Placing.{allFree, placeIn}
 use Rattle.blocks.specs.declared.Place.{Place}
 use Rattle.blocks.specs.declared.Place.the-variants.{At, Nothing}
@@ -26,11 +26,11 @@ hasEntry s x i = eqb (getD s i 0) x
 
 -- the entry x speaks of its slot alone: the slot is free, or a block
 unfoldable pub single : ℕ → ℕ → Bool
-single t x = eqb x 0 || eqb x t
+single t x = eqb x 0 || eqb (entryOrder x) t
 
 -- the entry x is of a free slot, or of a block of at most sixteen slots
 abbrev pub inRow : ℕ → ℕ → Bool
-inRow t x = eqb x 0 || (leb t x && leb x (t + 4))
+inRow t x = eqb x 0 || (leb t (entryOrder x) && leb (entryOrder x) (t + 4))
 
 -- ---- the search
 -- slot i is free, or, where `free` is false, taken

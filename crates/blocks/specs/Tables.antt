@@ -1,5 +1,5 @@
 -- Document 01, "Blocks and their table": the table of an arena of 2 ^ m bytes with slots of 2 ^ t bytes. An entry is 0 for a free slot,
--- else the order e of the block that has the slot, 2 ^ (e - t) slots in all.
+-- else it says the order e of the block that has the slot, 2 ^ (e - t) slots in all.
 use Prim.Native.Nat.{ℕ, zero, suc, _+_, _-_, _/_, _^_}
 use mathlib.Core.Bool.{Bool, false, not, cond, _&&_, _||_}
 use mathlib.Core.List.{List}
@@ -14,13 +14,21 @@ unfoldable pub any : ℕ → (ℕ → Bool) → Bool
 any zero test = false
 any (suc n) test = test n || any n test
 
--- one of the slots of the aligned range of 2 ^ e bytes round slot i has an entry that differs from e
-unfoldable pub torn : ℕ → List ℕ → ℕ → ℕ → Bool
-torn t s i e = any (2 ^ (e - t)) (λ k. not (eqb (getD s (floor (e - t) i + k) 0) e))
+-- the order that an entry says
+unfoldable pub entryOrder : ℕ → ℕ
+entryOrder x = x
 
--- slot i, whose entry is e, shows damage: e is neither 0 nor t to m, or the range round i is torn
+-- the entry of each slot of a block of order e
+abbrev pub entryOf : ℕ → ℕ
+entryOf e = e
+
+-- one of the slots of the aligned range of 2 ^ e bytes round slot i, e being the order that the entry x says, has another entry
+unfoldable pub torn : ℕ → List ℕ → ℕ → ℕ → Bool
+torn t s i x = let e = entryOrder x in any (2 ^ (e - t)) (λ k. not (eqb (getD s (floor (e - t) i + k) 0) x))
+
+-- slot i, whose entry is x, shows damage: x is neither 0 nor says an order from t to m, or the range round i is torn
 unfoldable pub bad : ℕ → ℕ → List ℕ → ℕ → ℕ → Bool
-bad t m s i e = not (eqb e 0) && (not (leb t e && leb e m) || torn t s i e)
+bad t m s i x = not (eqb x 0) && (not (leb t (entryOrder x) && leb (entryOrder x) m) || torn t s i x)
 
 -- some slot of the table shows damage
 unfoldable pub damagedBy : ℕ → ℕ → List ℕ → Bool
@@ -30,10 +38,10 @@ damagedBy t m s = any (length s) (λ i. bad t m s i (getD s i 0))
 abbrev pub freeIn : List ℕ → ℕ → Bool
 freeIn s i = eqb (getD s i 0) 0
 
--- the aligned block of order e round the address q; an entry 0 is none
+-- the aligned block round the address q, of the order that the entry of q's slot says; an entry 0 is none
 abbrev pub blockRound : ℕ → ℕ → Referent
 blockRound zero q = Missing
-blockRound (suc e) q = Found (base + floor (suc e) (q - base)) (suc e)
+blockRound (suc x) q = let e = entryOrder (suc x) in Found (base + floor e (q - base)) e
 
 -- the block that holds the address q, by the entry of q's slot and rounding
 unfoldable pub referentIn : ℕ → List ℕ → ℕ → Referent

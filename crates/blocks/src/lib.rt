@@ -7,7 +7,7 @@ ghost use Prim.Native.Nat.{_+_, _-_, _^_, _≤_, _<_};
 ghost use Rattle.blocks.specs.Blocks.{floor, holds};
 ghost use Rattle.blocks.specs.Orders.{orderOf, neededOrder};
 ghost use Rattle.blocks.specs.Inner.{fromZero};
-ghost use Rattle.blocks.specs.Tables.{damagedBy, freeIn, referentIn};
+ghost use Rattle.blocks.specs.Tables.{entryOrder, entryOf, damagedBy, freeIn, referentIn};
 ghost use Rattle.blocks.specs.Placing.{placeIn};
 ghost use Rattle.blocks.specs.Pointers.{sought, outsideAt, marked, address, exactSum, wrappedSum, checkBits, within};
 use common::wide;
@@ -67,6 +67,21 @@ pub fn size_of(e: u32) -> u32
     ensures { λ r. ⌜ r ≡ 2 ^ e ⌝ }
 {
     1u32 << e
+}
+
+// The order that an entry says.
+pub fn order_in(x: u8) -> u32
+    ensures { λ r. ⌜ r ≡ entryOrder x ⌝ }
+{
+    wide(x)
+}
+
+// The entry of a block's slots.
+pub fn entry_of(e: u32) -> u8
+    requires { ⌜ e ≤ 16 ⌝ }
+    ensures { λ r. ⌜ r ≡ entryOf e ⌝ }
+{
+    (e % 256) as u8
 }
 
 // How many slots a block of order e has.
@@ -154,12 +169,14 @@ pub fn referent_in(table: &[u8], t: u32, m: u32, q: u32) -> Referent
     if table.len() <= i {
         return Referent::Missing;
     }
-    let e = wide(table[i]);
-    if e == 0 {
+    let entry = table[i];
+    if entry == 0 {
         return Referent::Missing;
     }
+    let e = order_in(entry);
     let size = size_of(e);
-    Referent::Found(BASE + x / size * size, e)
+    let start = BASE + x / size * size;
+    Referent::Found(start, e)
 }
 
 // Whether the address q lies outside the arena of this table. The tests are those by which `referent_in` finds no slot, so that the compiler makes them

@@ -10,8 +10,8 @@ ghost use Rattle.blocks.specs.Tables.{damagedBy};
 ghost use Rattle.blocks.specs.Inner.{hasEntry, single, inRow};
 use crate::ROW;
 use crate::ROW_LEVELS;
+use crate::order_in;
 use crate::slots_of;
-use common::wide;
 
 // Whether the table of an arena of order m is damaged. A block that is found whole is passed whole, so that each slot is looked at once, or twice where
 // it is the first of a block. The range of a block that is no single slot is compared two slots at a time: a third
@@ -28,7 +28,7 @@ pub fn by_slots(table: &[u8], t: u32, m: u32) -> bool
             i += 1;
             continue 'scan;
         }
-        let e = wide(x);
+        let e = order_in(x);
         if !is_order(t, e, m) {
             found = true;
             break 'scan;
@@ -62,7 +62,7 @@ pub fn by_rows(table: &[u8], t: u32, m: u32) -> bool
     let mut i = 0usize;
     'scan: while i < table.len() {
         let x = table[i];
-        let e = wide(x);
+        let e = order_in(x);
         if e <= t + ROW_LEVELS {
             let end = i + ROW;
             if row_damaged(&table[i..end], t) {
@@ -124,7 +124,7 @@ fn in_a_row(t: u32, x: u8) -> bool
     if x == 0 {
         return true;
     }
-    is_order(t, wide(x), t + ROW_LEVELS)
+    is_order(t, order_in(x), t + ROW_LEVELS)
 }
 
 // Whether each slot of a row has the entry x. It looks at every slot, so that the compiler compares them at once, and from the last one down.
@@ -160,5 +160,5 @@ fn is_single(t: u32, x: u8) -> bool
     if x == 0 {
         return true;
     }
-    wide(x) == t
+    order_in(x) == t
 }

@@ -11,8 +11,8 @@ ghost use Rattle.blocks.specs.Tables.{freeIn};
 ghost use Rattle.blocks.specs.Inner.{bitsOf, asFree, decidedBy, SearchedBits, SearchedPart};
 use crate::ROW;
 use crate::ROW_LEVELS;
+use crate::order_in;
 use crate::size_of;
-use common::wide;
 
 // How many keys an order has: more than there are slots.
 pub const KEYS: u32 = 65536;
@@ -44,7 +44,7 @@ fn search(part: &[u8], t: u32, from: usize, k: u32, e: u32) -> u32
     if k <= t + ROW_LEVELS {
         return search_row(part, t, from, k, e);
     }
-    let x = wide(part[0]);
+    let x = order_in(part[0]);
     if k <= x {
         return NOWHERE;
     }
@@ -64,7 +64,7 @@ fn search(part: &[u8], t: u32, from: usize, k: u32, e: u32) -> u32
     if right < left { right } else { left }
 }
 
-// Whether a part of whole rows, with x the entry of its first slot, is all free, or all taken. A part that begins with a block of more than a
+// Whether a part of whole rows, with x the order in its first slot's entry, is all free, or all taken. A part that begins with a block of more than a
 // row is told apart at once, as if it were neither: its halves are answered without a look at its rows.
 fn uniform(part: &[u8], t: u32, x: u32) -> bool
     requires { ⌜ (t ≤ 16) × (length (now part) % 16 ≡ 0) ⌝ }

@@ -1,6 +1,6 @@
 -- The outcomes of get and give: a block put where the placing rule says, a free range of at least its order (`place-sound`), and a block taken away, whose
 -- slots are those from its start on (`slots-of`).
-use Prim.Native.Nat.{ℕ, _+_, _-_, _*_, _/_, _%_, _^_, _≤_}
+use Prim.Native.Nat.{ℕ, _+_, _-_, _*_, _/_, _^_, _≤_}
 use mathlib.Core.Path.{_≡_, refl, sym, _∙_, ap, subst}
 use mathlib.Core.Bool.{Bool, true, false, not, cond, _||_}
 use mathlib.Core.List.{List, [], _∷_}
@@ -13,7 +13,7 @@ use lib.Pow.{pow-mono}
 use Rattle.common.specs.Refusals.{_when_, first}
 use Rattle.common.specs.Bytes.{over}
 use Rattle.blocks.specs.Blocks.{base, orderIn}
-use Rattle.blocks.specs.Tables.{freeIn}
+use Rattle.blocks.specs.Tables.{entryOf, freeIn}
 use Rattle.blocks.specs.Orders.{neededOrder}
 use Rattle.blocks.specs.Placing.{placeIn}
 use Rattle.blocks.specs.declared.Place.{Place}
@@ -80,14 +80,13 @@ module _ (t m n : ℕ) (a tab : List ℕ) (z : Ready t m (Get n) a tab) (e : ℕ
     placed = ap (placeIn (freeIn tab) t 0 m) (sym q) ∙ h
 
     pub get-done : (x : ℕ) (a′ tab′ : List ℕ) → x ≡ base + s * 2 ^ t → a′ ≡ over a (s * 2 ^ t) (replicate (2 ^ e) 0)
-        → tab′ ≡ over tab s (replicate (2 ^ (e - t)) (e % 256)) → outcome (answer 0 x) a′ tab′ ≡ heapStep t m (Get n) (heapOf a tab)
+        → tab′ ≡ over tab s (replicate (2 ^ (e - t)) (entryOf e)) → outcome (answer 0 x) a′ tab′ ≡ heapStep t m (Get n) (heapOf a tab)
     unfolding stateRules value stored entered
     get-done x a′ tab′ xe ae te =
         let d : base + s * 2 ^ t - base ≡ s * 2 ^ t = omega arith in
         let f : (base + s * 2 ^ t - base) / 2 ^ t ≡ s = slot-start t s in
-        let o : e % 256 ≡ e = omega (arith, needed .high, z .sound .high) in
         let am : a′ ≡ cleared a (startFor n v - base) (neededFor n v) = ae ∙ rw (placed, d, ← q) in
-        let tm : tab′ ≡ stamped t tab (startFor n v) (neededFor n v) (neededFor n v) = te ∙ rw (placed, f, o, ← q) in
+        let tm : tab′ ≡ stamped t tab (startFor n v) (neededFor n v) (entryOf (neededFor n v)) = te ∙ rw (placed, f, ← q) in
         let xm : x ≡ startFor n v = xe ∙ sym (ap (placeAddress t) placed) in
         rw (xm, am, tm) (step-accepted t m (Get n) a tab z (ap (λ (y : Place). first (21 when noPlace y ∷ [])) placed))
 

@@ -7,7 +7,7 @@ use lib.ListN.{length, take, drop, replicate}
 use Rattle.common.specs.Refusals.{_when_, first}
 use Rattle.common.specs.Bytes.{over}
 use Rattle.blocks.specs.Blocks.{base, orderIn}
-use Rattle.blocks.specs.Tables.{damagedBy, freeIn, referentIn}
+use Rattle.blocks.specs.Tables.{entryOf, damagedBy, freeIn, referentIn}
 use Rattle.blocks.specs.Pointers.{sought, pointerReferent, address, wrappedSum, checkAt}
 use Rattle.blocks.specs.Orders.{isArenaOrder, orderOf}
 use Rattle.blocks.specs.declared.Referent.{Referent}
@@ -55,7 +55,7 @@ stamped t tab s e x = over tab ((s - base) / 2 ^ t) (replicate (2 ^ (e - t)) x)
 
 -- the table after a call that is not refused, by what it does to the blocks
 unfoldable pub entered : Change → View → List ℕ → List ℕ
-entered (adds n) w tab = stamped (w .slot) tab (startFor n w) (neededFor n w) (neededFor n w)
+entered (adds n) w tab = stamped (w .slot) tab (startFor n w) (neededFor n w) (entryOf (neededFor n w))
 entered (removes p) w tab = stamped (w .slot) tab p (orderIn (referentOfPointer w p)) 0
 entered keeps w tab = tab
 

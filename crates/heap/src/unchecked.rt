@@ -55,7 +55,7 @@ pub fn get(arena: &mut [u8], table: &mut [u8], t: u32, m: u32, n: u32) -> Answer
     match blocks::find_place(table, t, m, e) {
         Place::Nothing => refused(21),
         Place::At { slot, order: _ } => {
-            common::fill(table, slot, blocks::slots_of(t, e), (e % 256) as u8);
+            common::fill(table, slot, blocks::slots_of(t, e), blocks::entry_of(e));
             let at = slot * blocks::size_of(t) as usize;
             common::fill(arena, at, blocks::size_of(e) as usize, 0);
             accepted(BASE + at as u32)

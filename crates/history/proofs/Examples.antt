@@ -9,7 +9,7 @@ use native.Mathlib.Omega.{arith}
 use lib.ListN.{replicate, getD}
 use lib.Seq.{getD-append-add}
 use Rattle.blocks.specs.Blocks.{base, floor, Block, holds}
-use Rattle.blocks.specs.Tables.{any, referentIn}
+use Rattle.blocks.specs.Tables.{any, entryOrder, referentIn}
 use Rattle.heap.specs.Heaps.{Heap, heapOf, heapCall}
 use Rattle.heap.specs.declared.Answer.{Answer}
 use Rattle.heap.specs.declared.Call.{Call}
@@ -102,11 +102,11 @@ arenas : EqualOutside hidden (arena 1) (arena 2)
 arenas = record { sizes = refl; bytes = λ i e. nines 1 i (outside i e) ∙ sym (nines 2 i (outside i e)) }
 
 twins : Twins hidden (heap 1) (heap 2)
-unfolding floor referentIn
+unfolding floor entryOrder referentIn
 twins = record { live = refl; tables = refl; arenas = arenas }
 
 damaged-twins : Twins hidden (damaged-heap 1) (damaged-heap 2)
-unfolding floor referentIn
+unfolding floor entryOrder referentIn
 damaged-twins = record { live = refl; tables = refl; arenas = arenas }
 
 -- all eight calls, with a step, a left, a write, a fill and a copy into the block; on the damaged table they are refused

@@ -1,5 +1,5 @@
 -- Both loops are left by `break 'scan` at the first damage.
--- The outer loop's invariant: every slot passed is good, and rows were passed. The inner loop's: every slot of the range that was passed has the entry e,
+-- The outer loop's invariant: every slot passed is good, and rows were passed. The inner loop's: every slot of the range that was passed has the entry x,
 -- and rows were passed. The measures are what is left of the table and of the range. A row whose first block lies in it is damaged as a table
 -- of its own where the whole table is (`row-good`, `row-undamaged`).
 use mathlib.Core.Bool.{Bool, true, false, true≢false}
@@ -17,10 +17,10 @@ use lib.ListN.{length, getD, take, drop}
 use lib.Pow.{pow-pos}
 use Rattle.blocks.specs.Blocks.{floor}
 use Rattle.blocks.specs.Placing.{allFree}
-use Rattle.blocks.specs.Tables.{damagedBy}
+use Rattle.blocks.specs.Tables.{entryOrder, damagedBy}
 use Rattle.blocks.specs.Inner.{hasEntry}
 use Rattle.blocks.proofs.Floors.{floor-le, lt-floor, floor-end}
-use Rattle.blocks.proofs.Tables.{Good, Whole, damaged-at, undamaged, order-bad, whole-good}
+use Rattle.blocks.proofs.Tables.{Good, Whole, order-taken, damaged-at, undamaged, order-bad, whole-good}
 use Rattle.blocks.proofs.FreeRuns.{part-length, part-entry, run-of-part}
 use Rattle.blocks.proofs.Rows.{run-at, run-bad, floor-rows, row-good, row-undamaged, whole-rows, below-both}
 use Rattle.blocks.proofs.scan.by_rows.Statement.{statement}
@@ -29,7 +29,7 @@ use Rattle.blocks.proofs.scan.by_rows.Tie as tie
 abbrev Inv-block : tie.InvT-block
 Inv-block table t m found₀ i x e slots from to k₀ found k =
     (found ≡ false) × (from ≡ floor (e - t) i) × (to ≡ floor (e - t) i + 2 ^ (e - t)) × (to ≤ length table) × (from ≤ k) × (k ≤ to)
-    × ((k - from) % 16 ≡ 0) × ((j : ℕ) → j < k → from ≤ j → getD table j 0 ≡ e)
+    × ((k - from) % 16 ≡ 0) × ((j : ℕ) → j < k → from ≤ j → getD table j 0 ≡ getD table i 0)
 
 abbrev μ-block : tie.MeasureT-block
 μ-block table t m found₀ i x e slots from to k₀ found k = to - k
@@ -83,10 +83,10 @@ module _ (c : tie.Then1 Inv-block μ-block Inv-scan μ-scan) where
   entry-at : (j : ℕ) → j < 16 → getD row j 0 ≡ getD (table at-row) (slot at-row + j) 0
   entry-at = part-entry (table at-row) (slot at-row) 16
 
-  first : getD row 0 0 ≤ t at-row + 4
+  first : entryOrder (getD row 0 0) ≤ t at-row + 4
   first =
       let at : getD row 0 0 ≡ getD (table at-row) (slot at-row) 0 = rw add-zero at (entry-at 0 (omega arith)) in
-      omega (arith, c .before .wide .ensures, c .if1 .taken)
+      omega (arith, ap entryOrder at, c .before .order-in .ensures, c .if1 .taken)
 
   passed-row : damagedBy (t at-row) (t at-row + 4) row ≡ false → (j : ℕ) → slot at-row ≤ j → j < slot at-row + 16
       → Good (t at-row) (top at-row) (table at-row) j
@@ -103,29 +103,29 @@ module _ (c : tie.Then1 Inv-block μ-block Inv-scan μ-scan) where
           let u = row-undamaged (t at-row) (top at-row) (table at-row) row (slot at-row) sixteen (at-row .before .scan .inv .2) entry-at in
           absurd (true≢false (sym d ∙ u first (row-inside at-row) q))
 
--- where the block is larger: the entry, and the range round the slot
+-- where the block is larger: the entry, its order, and the range round the slot
 module _ (c : tie.Else3 Inv-block μ-block Inv-scan μ-scan) where
   abbrev turn : tie.In-scan Inv-block μ-block Inv-scan μ-scan
   turn = c .before .before .before .before
 
-  abbrev byte : ℕ
-  byte = getD (table turn) (slot turn) 0
-
   abbrev entry : ℕ
-  entry = c .before .before .wide .result
+  entry = getD (table turn) (slot turn) 0
+
+  abbrev order : ℕ
+  order = c .before .before .order-in .result
 
   -- how far it is above the order of a slot
   abbrev levels : ℕ
-  levels = entry - t turn
+  levels = order - t turn
 
-  entry-is : entry ≡ byte
-  entry-is = c .before .before .wide .ensures
+  says : entryOrder entry ≡ order
+  says = sym (c .before .before .order-in .ensures)
 
-  large : t turn + 4 < entry
+  large : t turn + 4 < order
   large = c .before .if1 .left
 
   taken : entry ≡ 0 → ⊥
-  taken z = omega (arith, large)
+  taken = order-taken entry (λ z. omega (arith, large, says))
 
   ends : floor levels (slot turn) + 2 ^ levels ≤ length (table turn)
   ends = rw (slots-are turn) (floor-end levels _ (slot turn) (omega (arith, c .if3 .left)) (rw (slots-are turn) at (turn .scan-test .taken)))
@@ -147,19 +147,19 @@ module _ (c : tie.In-block Inv-block μ-block Inv-scan μ-scan) where
   abbrev range : tie.At-block Inv-block μ-block Inv-scan μ-scan
   range = c .before
 
-  abbrev order : tie.Else3 Inv-block μ-block Inv-scan μ-scan
-  order = range .before .before
+  abbrev ordered : tie.Else3 Inv-block μ-block Inv-scan μ-scan
+  ordered = range .before .before
 
   abbrev slots : List ℕ
-  slots = table (turn order)
+  slots = table (turn ordered)
 
-  row-ends : range .block .at + 16 ≤ floor (levels order) (slot (turn order)) + 2 ^ levels order
-  row-ends = let inv = range .block .inv in omega (arith, rows order, inv .6, inv .1, inv .2, c .block-test .taken)
+  row-ends : range .block .at + 16 ≤ floor (levels ordered) (slot (turn ordered)) + 2 ^ levels ordered
+  row-ends = let inv = range .block .inv in omega (arith, rows ordered, inv .6, inv .1, inv .2, c .block-test .taken)
 
   -- what is said of the part is said of the table
-  row-alike : allFree (hasEntry (take (range .block .at + 16 - range .block .at) (drop (range .block .at) slots)) (byte order)) 0 16
-      ≡ allFree (hasEntry slots (byte order)) (range .block .at) 16
-  row-alike = run-of-part (λ v. eqb v (byte order)) slots (range .block .at) 16
+  row-alike : allFree (hasEntry (take (range .block .at + 16 - range .block .at) (drop (range .block .at) slots)) (entry ordered)) 0 16
+      ≡ allFree (hasEntry slots (entry ordered)) (range .block .at) 16
+  row-alike = run-of-part (λ v. eqb v (entry ordered)) slots (range .block .at) 16
 
 scan-holds : tie.Need-scan-holds Inv-block μ-block Inv-scan μ-scan
 scan-holds c = (refl, omega arith, omega arith, below-none _)
@@ -167,8 +167,8 @@ scan-holds c = (refl, omega arith, omega arith, below-none _)
 shared-slice-read-x : tie.Need-shared-slice-read-x Inv-block μ-block Inv-scan μ-scan
 shared-slice-read-x c = omega arith
 
-wide-requires : tie.Need-wide-requires Inv-block μ-block Inv-scan μ-scan
-wide-requires c κs = search needs
+order-in-requires : tie.Need-order-in-requires Inv-block μ-block Inv-scan μ-scan
+order-in-requires c κs = search needs
 
 add-if1 : tie.Need-add-if1 Inv-block μ-block Inv-scan μ-scan
 add-if1 c = omega arith
@@ -228,12 +228,12 @@ part-alike-start : tie.Need-part-alike-start Inv-block μ-block Inv-scan μ-scan
 part-alike-start c = search needs
 
 part-alike-end : tie.Need-part-alike-end Inv-block μ-block Inv-scan μ-scan
-part-alike-end c = let end : range c .block .at + 16 ≤ length (slots c) = omega (arith, row-ends c, ends (order c)) in end
+part-alike-end c = let end : range c .block .at + 16 ≤ length (slots c) = omega (arith, row-ends c, ends (ordered c)) in end
 
 alike-requires : tie.Need-alike-requires Inv-block μ-block Inv-scan μ-scan
 alike-requires c κs =
     let r = c .before in
-    part-length (slots r) (range r .block .at) 16 (omega (arith, row-ends r, ends (order r)))
+    part-length (slots r) (range r .block .at) 16 (omega (arith, row-ends r, ends (ordered r)))
 
 block-less : tie.Need-block-less Inv-block μ-block Inv-scan μ-scan
 block-less c = omega arith
@@ -242,9 +242,9 @@ block-again : tie.Need-block-again Inv-block μ-block Inv-scan μ-scan
 block-again c =
     let r = c .before .before .before in
     let inv = range r .block .inv in
-    let o = order r in
+    let o = ordered r in
     let k = range r .block .at in
-    let run = run-at (slots r) (byte o) k 16 (sym (row-alike r) ∙ sym (c .before .alike .ensures) ∙ not-false _ (c .if4 .left)) in
+    let run = run-at (slots r) (entry o) k 16 (sym (row-alike r) ∙ sym (c .before .alike .ensures) ∙ not-false _ (c .if4 .left)) in
     let Passed : ℕ → Type 0 = λ j. from (range r .before) ≤ j → getD (slots r) j 0 ≡ entry o in (
       inv .0,
       inv .1,
@@ -253,7 +253,7 @@ block-again c =
       omega arith,
       omega (arith, row-ends r, inv .2),
       omega (arith, inv .6),
-      below-both Passed k (k + 16) (inv .7) (λ j lo hi _. run j lo hi ∙ sym (entry-is o)),
+      below-both Passed k (k + 16) (inv .7) (λ j lo hi _. run j lo hi),
     )
 
 scan-less-2 : tie.Need-scan-less-2 Inv-block μ-block Inv-scan μ-scan
@@ -267,9 +267,13 @@ scan-again-2 c =
     let o = c .before .before .before in
     let u = turn o in
     let inv = c .before .block .inv in
-    let w : Whole (t u) (top u) (table u) (slot u) (entry o) =
-    record { low = omega (arith, large o); high = o .if3 .left; entries = λ k lo hi. inv .7 k (omega (arith, inv .2)) (omega (arith, inv .1)) } in
-    let block = whole-good (t u) (top u) (table u) (slot u) (entry o) (taken o) w in
+    let w : Whole (t u) (top u) (table u) (slot u) (entry o) (order o) = record {
+      order = says o;
+      low = omega (arith, large o);
+      high = o .if3 .left;
+      entries = λ k lo hi. inv .7 k (omega (arith, inv .2)) (omega (arith, inv .1));
+    } in
+    let block = whole-good (t u) (top u) (table u) (slot u) (entry o) (order o) (taken o) w in
     let low = floor-le (levels o) (slot u) in
     let begins = floor-rows (levels o) (slot u) (omega (arith, large o)) in (
       inv .0,
@@ -289,21 +293,22 @@ returns-3 c =
     let w = c .before .before in
     let u = w .before .before in
     let big = c .before .if1 .left in
-    let e = w .wide .result in
-    sym (damaged-at (t u) (top u) (table u) (slot u) e (u .scan-test .taken) (w .wide .ensures)
-    (order-bad (t u) _ _ _ _ (λ z. omega (arith, big)) (rw (le-leb (t u) e (omega (arith, big)), lt-leb e (top u) (c .if3 .taken)))))
+    let e = w .order-in .result in
+    let says = sym (w .order-in .ensures) in
+    let taken = order-taken (getD (table u) (slot u) 0) (λ z. omega (arith, big, says)) in
+    sym (damaged-at (t u) (top u) (table u) (slot u) _ (u .scan-test .taken) refl
+    (order-bad (t u) _ _ _ _ e says taken (rw (le-leb (t u) e (omega (arith, big)), lt-leb e (top u) (c .if3 .taken)))))
 
 returns-4 : tie.Need-returns-4 Inv-block μ-block Inv-scan μ-scan
 returns-4 c =
     let r = c .before .before .before in
     let inv = range r .block .inv in
-    let o = order r in
+    let o = ordered r in
     let u = turn o in
     let k = range r .block .at in
     let differs = sym (row-alike r) ∙ sym (c .before .alike .ensures) ∙ not-true _ (c .if4 .taken) in
-    let other = ap (λ (x : ℕ). allFree (hasEntry (table u) x) k 16) (entry-is o) ∙ differs in
-    sym (damaged-at (t u) (top u) (table u) (slot u) (entry o) (u .scan-test .taken) (entry-is o)
-    (run-bad (t u) (top u) (table u) (slot u) (entry o) k 16 (taken o) (omega (arith, inv .1, inv .4)) (row-ends r) other))
+    sym (damaged-at (t u) (top u) (table u) (slot u) (entry o) (u .scan-test .taken) refl
+    (run-bad (t u) (top u) (table u) (slot u) (entry o) (order o) k 16 (says o) (taken o) (omega (arith, inv .1, inv .4)) (row-ends r) differs))
 
 pub by-rows-spec : {M : Type 1} → statement M
 by-rows-spec =
@@ -315,7 +320,7 @@ by-rows-spec =
     μ-scan
     scan-holds
     shared-slice-read-x
-    wide-requires
+    order-in-requires
     add-if1
     add-end
     sub-row-damaged

@@ -1,5 +1,5 @@
 -- Both loops are left by `break 'scan` at the first damage.
--- The outer loop's invariant: every slot passed is good. The inner loop's: every slot of the range that was passed has the entry e, and pairs were passed.
+-- The outer loop's invariant: every slot passed is good. The inner loop's: every slot of the range that was passed has the entry x, and pairs were passed.
 -- The measures are what is left of the table and of the range.
 use mathlib.Core.Bool.{true, false, _&&_}
 use mathlib.Core.List.{List}
@@ -15,10 +15,11 @@ use lib.Dec.{leb}
 use lib.ListN.{length, getD}
 use lib.Pow.{pow-pos}
 use Rattle.blocks.specs.Blocks.{floor}
-use Rattle.blocks.specs.Tables.{damagedBy}
+use Rattle.blocks.specs.Tables.{entryOrder, damagedBy}
 use Rattle.common.proofs.Booleans.{and-left, and-right}
 use Rattle.blocks.proofs.Floors.{floor-le, lt-floor, floor-end, pow-split}
 use Rattle.blocks.proofs.Tables.{Good, Whole, damaged-at, undamaged, order-bad, torn-bad, whole-good}
+use Rattle.blocks.specs.Inner.{single}
 use Rattle.blocks.proofs.Rows.{not-free, not-slot, single-good, below-both}
 use Rattle.blocks.proofs.scan.by_slots.Statement.{statement}
 use Rattle.blocks.proofs.scan.by_slots.Tie as tie
@@ -26,7 +27,7 @@ use Rattle.blocks.proofs.scan.by_slots.Tie as tie
 abbrev Inv-block : tie.InvT-block
 Inv-block table t m found₀ i x e slots from to k₀ found k =
     (found ≡ false) × (from ≡ floor (e - t) i) × (to ≡ floor (e - t) i + 2 ^ (e - t)) × (to ≤ length table) × (from ≤ k) × (k ≤ to)
-    × ((k - from) % 2 ≡ 0) × ((j : ℕ) → j < k → from ≤ j → getD table j 0 ≡ e)
+    × ((k - from) % 2 ≡ 0) × ((j : ℕ) → j < k → from ≤ j → getD table j 0 ≡ getD table i 0)
 
 abbrev μ-block : tie.MeasureT-block
 μ-block table t m found₀ i x e slots from to k₀ found k = to - k
@@ -57,48 +58,49 @@ module _ (c : tie.In-scan Inv-block μ-block Inv-scan μ-scan) where
   passed : (j : ℕ) → j < slot → Good t top table j
   passed = c .before .scan .inv .2
 
-  t-positive : t ≡ 0 → ⊥
-  t-positive z = omega (arith, start .pre .0)
-
   top-low : t ≤ top
   top-low = start .pre .1
 
--- where the entry is an order: the entry, and the range round the slot
+-- where the entry says an order: both, and the range round the slot
 module _ (c : tie.Else2 Inv-block μ-block Inv-scan μ-scan) where
   abbrev turn : tie.In-scan Inv-block μ-block Inv-scan μ-scan
   turn = c .before .before .before .before .before .before
 
   abbrev entry : ℕ
-  entry = c .before .before .wide .result
+  entry = getD (table turn) (slot turn) 0
+
+  abbrev order : ℕ
+  order = c .before .before .order-in .result
 
   -- how far it is above the order of a slot
   abbrev levels : ℕ
-  levels = entry - t turn
+  levels = order - t turn
 
-  entry-is : entry ≡ getD (table turn) (slot turn) 0
-  entry-is = c .before .before .wide .ensures
+  says : entryOrder entry ≡ order
+  says = sym (c .before .before .order-in .ensures)
 
-  is-order : leb (t turn) entry && leb entry (top turn) ≡ true
+  is-order : leb (t turn) order && leb order (top turn) ≡ true
   is-order = sym (c .before .is-order .ensures) ∙ not-false _ (c .if2 .left)
 
-  low-order : t turn ≤ entry
-  low-order = leb-true (t turn) entry (and-left _ _ is-order)
+  low-order : t turn ≤ order
+  low-order = leb-true (t turn) order (and-left _ _ is-order)
 
-  high-order : entry ≤ top turn
-  high-order = leb-true entry (top turn) (and-right (leb (t turn) entry) _ is-order)
+  high-order : order ≤ top turn
+  high-order = leb-true order (top turn) (and-right (leb (t turn) order) _ is-order)
+
+  not-single : single (t turn) entry ≡ false
+  not-single = let e = c .before .before .before in sym (e .before .is-single .ensures) ∙ e .if1 .left
 
   -- the entry is no single slot's, so the range has pairs of slots
   pairs : 2 ^ levels % 2 ≡ 0
   pairs =
-      let e = c .before .before .before in
-      let other : entry ≡ t turn → ⊥ = λ z. not-slot (t turn) _ (sym (e .before .is-single .ensures) ∙ e .if1 .left) (sym entry-is ∙ z) in
-      elim (decLt (t turn) entry) [
+      elim (decLt (t turn) order) [
         | yes l ↦ omega (arith, pow-split 1 levels (omega arith))
-        | no l ↦ absurd (other (omega (arith, low-order)))
+        | no l ↦ absurd (not-slot (t turn) entry not-single (says ∙ omega (arith, low-order)))
       ]
 
   taken : entry ≡ 0 → ⊥
-  taken z = t-positive turn (omega (arith, low-order))
+  taken = not-free (t turn) entry not-single
 
   ends : floor levels (slot turn) + 2 ^ levels ≤ length (table turn)
   ends =
@@ -122,22 +124,21 @@ module _ (c : tie.After-slots-of Inv-block μ-block Inv-scan μ-scan) where
   torn k lo hi n =
       let o = c .before in
       let u = turn o in
-      let w = entry-is o in
-      sym (damaged-at (t u) (top u) (table u) (slot u) (entry o) (u .scan-test .taken) w
-      (torn-bad (t u) (top u) (table u) (slot u) (entry o) k (taken o) (low-order o) (high-order o) lo hi (λ q. n (q ∙ w))))
+      sym (damaged-at (t u) (top u) (table u) (slot u) (entry o) (u .scan-test .taken) refl
+      (torn-bad (t u) (top u) (table u) (slot u) (entry o) (order o) k (says o) (taken o) (low-order o) (high-order o) lo hi n))
 
 -- two slots of it
 module _ (c : tie.Else3 Inv-block μ-block Inv-scan μ-scan) where
   abbrev range : tie.At-block Inv-block μ-block Inv-scan μ-scan
   range = c .before .before .before
 
-  abbrev order : tie.Else2 Inv-block μ-block Inv-scan μ-scan
-  order = range .before .before
+  abbrev ordered : tie.Else2 Inv-block μ-block Inv-scan μ-scan
+  ordered = range .before .before
 
-  pair : range .block .k + 2 ≤ floor (levels order) (slot (turn order)) + 2 ^ levels order
+  pair : range .block .k + 2 ≤ floor (levels ordered) (slot (turn ordered)) + 2 ^ levels ordered
   pair =
       let inv = range .block .inv in
-      omega (arith, pairs order, inv .1, inv .2, inv .6, c .before .before .block-test .taken)
+      omega (arith, pairs ordered, inv .1, inv .2, inv .6, c .before .before .block-test .taken)
 
 scan-holds : tie.Need-scan-holds Inv-block μ-block Inv-scan μ-scan
 scan-holds c = (refl, omega arith, below-none _)
@@ -157,11 +158,11 @@ scan-less c = omega arith
 scan-again : tie.Need-scan-again Inv-block μ-block Inv-scan μ-scan
 scan-again c =
     let o = c .before .before .before in
-    let one = single-good (t o) (top o) (table o) (slot o) (t-positive o) (top-low o) (sym (c .before .is-single .ensures) ∙ c .if1 .taken) in
+    let one = single-good (t o) (top o) (table o) (slot o) (top-low o) (sym (c .before .is-single .ensures) ∙ c .if1 .taken) in
     (o .before .scan .inv .0, omega arith, below-more _ _ (passed o) one)
 
-wide-requires : tie.Need-wide-requires Inv-block μ-block Inv-scan μ-scan
-wide-requires c κs = search needs
+order-in-requires : tie.Need-order-in-requires Inv-block μ-block Inv-scan μ-scan
+order-in-requires c κs = search needs
 
 is-order-requires : tie.Need-is-order-requires Inv-block μ-block Inv-scan μ-scan
 is-order-requires c κs = search needs
@@ -205,9 +206,9 @@ block-again c =
     let p = c .before .before in
     let b = range p in
     let inv = b .block .inv in
-    let one = p .if3 .left ∙ sym (entry-is (order p)) in
-    let two = c .if4 .left ∙ sym (entry-is (order p)) in
-    let Passed : ℕ → Type 0 = λ j. from (b .before) ≤ j → getD (table (turn (order p))) j 0 ≡ entry (order p) in
+    let one = p .if3 .left in
+    let two = c .if4 .left in
+    let Passed : ℕ → Type 0 = λ j. from (b .before) ≤ j → getD (table (turn (ordered p))) j 0 ≡ entry (ordered p) in
     let both = below-more Passed (b .block .k + 1) (below-more Passed (b .block .k) (inv .7) (λ _. one)) (λ _. two) in
     (inv .0, inv .1, inv .2, inv .3, omega arith, omega (arith, pair p), omega arith, λ j l. both j (omega arith))
 
@@ -222,9 +223,13 @@ scan-again-2 c =
     let o = c .before .before .before in
     let u = turn o in
     let inv = c .before .block .inv in
-    let w : Whole (t u) (top u) (table u) (slot u) (entry o) =
-    record { low = low-order o; high = high-order o; entries = λ k lo hi. inv .7 k (omega (arith, inv .2)) (omega (arith, inv .1)) } in
-    let block = whole-good (t u) (top u) (table u) (slot u) (entry o) (taken o) w in
+    let w : Whole (t u) (top u) (table u) (slot u) (entry o) (order o) = record {
+      order = says o;
+      low = low-order o;
+      high = high-order o;
+      entries = λ k lo hi. inv .7 k (omega (arith, inv .2)) (omega (arith, inv .1));
+    } in
+    let block = whole-good (t u) (top u) (table u) (slot u) (entry o) (order o) (taken o) w in
     let low = floor-le (levels o) (slot u) in
     (inv .0, inv .3, below-both (Good (t u) (top u) (table u)) (slot u) _ (passed u) (λ j lo hi. block j (omega arith) (omega (arith, inv .2))))
 
@@ -237,8 +242,7 @@ returns-2 c =
     let u = w .before .before .before .before in
     let none = not-free (t u) _ (sym (w .before .before .is-single .ensures) ∙ w .before .if1 .left) in
     let no-order = sym (c .before .is-order .ensures) ∙ not-true _ (c .if2 .taken) in
-    sym (damaged-at (t u) (top u) (table u) (slot u) (w .wide .result) (u .scan-test .taken) (w .wide .ensures)
-    (order-bad (t u) _ _ _ _ (λ z. none (sym (w .wide .ensures) ∙ z)) no-order))
+    sym (damaged-at (t u) (top u) (table u) (slot u) _ (u .scan-test .taken) refl (order-bad (t u) _ _ _ _ _ (sym (w .order-in .ensures)) none no-order))
 
 returns-3 : tie.Need-returns-3 Inv-block μ-block Inv-scan μ-scan
 returns-3 c =
@@ -267,7 +271,7 @@ by-slots-spec =
     add-i
     scan-less
     scan-again
-    wide-requires
+    order-in-requires
     is-order-requires
     slots-of-requires
     div-from

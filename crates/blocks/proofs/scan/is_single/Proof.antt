@@ -9,12 +9,12 @@ returns : tie.Need-returns
 unfolding single
 returns c = let z = eq-eqb (c .before .args .x) 0 (c .if1 .taken) in rw z
 
-wide-requires : tie.Need-wide-requires
-wide-requires c κs = search needs
+order-in-requires : tie.Need-order-in-requires
+order-in-requires c κs = search needs
 
 returns-2 : tie.Need-returns-2
 unfolding single
-returns-2 c = rw (c .wide .ensures, ne-eqb (c .before .before .args .x) 0 (c .before .if1 .left))
+returns-2 c = rw (c .order-in .ensures, ne-eqb (c .before .before .args .x) 0 (c .before .if1 .left))
 
 pub is-single-spec : {M : Type 1} → statement M
-is-single-spec = tie.close (tie.spec returns wide-requires returns-2)
+is-single-spec = tie.close (tie.spec returns order-in-requires returns-2)

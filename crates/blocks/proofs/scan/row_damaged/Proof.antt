@@ -19,7 +19,7 @@ returns c =
     let t = s .args .t in
     let row = now (s .args .row) in
     let h = sym (c .before .even .ensures) ∙ c .if1 .taken in
-    sym (even-undamaged t (getD row 0 0) row (λ z. omega arith) (s .pre .2) (and-left _ _ h) (and-right (inRow t (getD row 0 0)) _ h))
+    sym (even-undamaged t (getD row 0 0) row (s .pre .2) (and-left _ _ h) (and-right (inRow t (getD row 0 0)) _ h))
 
 add-by-slots : tie.Need-add-by-slots
 add-by-slots c = search needs

@@ -13,7 +13,7 @@ use lib.Pow.{pow-pos}
 use lib.Seq.{getD-take, getD-drop}
 use borrow.Fn.Kinds.{In}
 use borrow.Fn.PlainCycle.{Measures, is, falls, and}
-use Rattle.blocks.specs.Tables.{freeIn}
+use Rattle.blocks.specs.Tables.{entryOrder, freeIn}
 use Rattle.blocks.specs.Placing.{allFree, placeIn}
 use Rattle.blocks.specs.Inner.{asFree, PartOf, keyOf}
 use Rattle.common.proofs.Booleans.{and-right}
@@ -27,7 +27,7 @@ use Rattle.blocks.proofs.search.is_exact.Reads as is-exact-reads
 use Rattle.blocks.proofs.search.key.Reads as key-reads
 use Rattle.blocks.proofs.search.search_row.Reads as search-row-reads
 use Rattle.blocks.proofs.search.uniform.Reads as uniform-reads
-use Rattle.common.proofs.wide.Reads as wide-reads
+use Rattle.blocks.proofs.order_in.Reads as order-in-reads
 use Rattle.blocks.proofs.search.+search.{statement}
 use Rattle.blocks.proofs.search.+search.Tie.{close}
 
@@ -44,8 +44,8 @@ abbrev calls : ℕ → search-lts.Claims
 calls k = (
   search-row-reads.Asked,
   search-row-reads.Learnt,
-  wide-reads.Asked,
-  wide-reads.Learnt,
+  order-in-reads.Asked,
+  order-in-reads.Learnt,
   uniform-reads.Asked,
   uniform-reads.Learnt,
   key-reads.Asked,
@@ -96,22 +96,22 @@ module _ (k : ℕ) (c : search-lts.Start (calls k) (search-at k) search′.Post)
   high = c .pre .1 .2
 
 -- where it has more than a row, with x the entry of its first slot
-module _ (k : ℕ) (c : search-lts.After-wide (calls k) (search-at k) search′.Post) where
+module _ (k : ℕ) (c : search-lts.After-order-in (calls k) (search-at k) search′.Post) where
   abbrev wider : search-lts.Start (calls k) (search-at k) search′.Post
   wider = c .before .before .before .before
 
   abbrev x : ℕ
-  x = c .wide .result
+  x = c .order-in .result
 
-  first : x ≡ getD (part k wider) 0 0
-  first = c .wide .ensures
+  first : x ≡ entryOrder (getD (part k wider) 0 0)
+  first = c .order-in .ensures
 
   rows : length (part k wider) % 16 ≡ 0
   rows = ap (λ (n : ℕ). n % 16) (slots k wider) ∙ whole-rows (order k wider - t k wider) (omega (arith, c .before .before .if1 .left))
 
 -- where it is told whether its slots are all free, or all taken
 module _ (k : ℕ) (c : search-lts.After-uniform (calls k) (search-at k) search′.Post) where
-  abbrev looked : search-lts.After-wide (calls k) (search-at k) search′.Post
+  abbrev looked : search-lts.After-order-in (calls k) (search-at k) search′.Post
   looked = c .before .before
 
   abbrev entire : search-lts.Start (calls k) (search-at k) search′.Post
@@ -201,18 +201,18 @@ search-row-requires k c κs = let s = c .before .before in (omega arith, low k s
 returns : (k : ℕ) → search-lts.Need-returns (calls k) (search-at k) search′.Post
 returns k c = c .search-row .ensures
 
-shared-slice-read-wide : (k : ℕ) → search-lts.Need-shared-slice-read-wide (calls k) (search-at k) search′.Post
-shared-slice-read-wide k c = let s = c .before .before .before in omega (arith, slots k s, pow-pos (order k s - t k s))
+shared-slice-read-order-in : (k : ℕ) → search-lts.Need-shared-slice-read-order-in (calls k) (search-at k) search′.Post
+shared-slice-read-order-in k c = let s = c .before .before .before in omega (arith, slots k s, pow-pos (order k s - t k s))
 
-wide-requires : (k : ℕ) → search-lts.Need-wide-requires (calls k) (search-at k) search′.Post
-wide-requires k c κs = search needs
+order-in-requires : (k : ℕ) → search-lts.Need-order-in-requires (calls k) (search-at k) search′.Post
+order-in-requires k c κs = search needs
 
 returns-2 : (k : ℕ) → search-lts.Need-returns-2 (calls k) (search-at k) search′.Post
 returns-2 k c s r =
     let w = c .before in
     let o = wider k w in
     let big = w .before .before .if1 .left in
-    let taken = in-block r (x k w) (first k w) (λ z. omega (arith, c .if2 .taken, big)) (omega (arith, big)) (c .if2 .taken) in
+    let taken = in-block r (x k w) (first k w) (omega (arith, big)) (c .if2 .taken) in
     none-free (freeIn s) (t k o) (from k o) (order k o) (sought k o) (low k o) (high k o) taken
 
 uniform-requires : (k : ℕ) → search-lts.Need-uniform-requires (calls k) (search-at k) search′.Post
@@ -331,8 +331,8 @@ pub +search-spec : {M : Type 1} → statement M
     (add-if1 k)
     (search-row-requires k)
     (returns k)
-    (shared-slice-read-wide k)
-    (wide-requires k)
+    (shared-slice-read-order-in k)
+    (order-in-requires k)
     (returns-2 k)
     (uniform-requires k)
     (key-requires k)

@@ -1,6 +1,6 @@
 -- With no place the call is refused (`get-none`). A place is a free range of at least the order that is needed, so the block's entries and its cleared
 -- bytes lie in the table and the arena (`get-slots`, `get-bytes`), and what is stored and answered is the call's outcome (`get-done`).
-use Prim.Native.Nat.{ℕ, _+_, _-_, _*_, _%_, _^_, _≤_}
+use Prim.Native.Nat.{ℕ, _+_, _-_, _*_, _^_, _≤_}
 use mathlib.Core.Path.{_≡_, sym, _∙_, ap, ap₂}
 use native.Mathlib.Omega.{arith}
 use borrow.Author.Needs.{needs}
@@ -9,7 +9,7 @@ use Rattle.common.specs.Bytes.{over}
 use Rattle.blocks.specs.Blocks.{base}
 use Rattle.blocks.specs.Placing.{placeIn}
 use Rattle.blocks.proofs.Orders.{Needed}
-use Rattle.blocks.specs.Tables.{freeIn}
+use Rattle.blocks.specs.Tables.{entryOf, freeIn}
 use Rattle.blocks.specs.declared.Place.the-variants.{At}
 use Rattle.heap.specs.Heaps.{outcome}
 use Rattle.heap.specs.declared.Answer.{Answer}
@@ -55,16 +55,16 @@ module _ (c : tie.After-slot) where
 -- once the table has the block's entries
 module _ (c : tie.After-fill) where
   abbrev place : tie.After-slot
-  place = c .before .before .before .before
+  place = c .before .before .before .before .before
 
   abbrev known : tie.After-needed-order
   known = from place
 
   entries : let a = start place .args in
-      c .fill .last .0 ≡ over (a .table .now) (at place) (replicate (2 ^ (order known - a .t)) (order known % 256))
+      c .fill .last .0 ≡ over (a .table .now) (at place) (replicate (2 ^ (order known - a .t)) (entryOf (order known)))
   entries =
       c .fill .ensures
-      ∙ ap (λ (z : ℕ). over (start place .args .table .now) (at place) (replicate z (order known % 256))) (c .before .slots-of .ensures)
+      ∙ ap₂ (λ (z x : ℕ). over (start place .args .table .now) (at place) (replicate z x)) (c .before .before .slots-of .ensures) (c .before .entry-of .ensures)
 
 -- and once a slot's size is known, the block's first byte
 module _ (c : tie.After-size-of) where
@@ -109,11 +109,11 @@ enum-known-slot c = search needs
 slots-of-requires : tie.Need-slots-of-requires
 slots-of-requires c κs = let k = from (c .before .before) in (order-needed k .low, order-top k)
 
-cast-fill : tie.Need-cast-fill
-cast-fill c = record { fits = omega arith }
+entry-of-requires : tie.Need-entry-of-requires
+entry-of-requires c κs = order-top (from (c .before .before .before))
 
 fill-requires : tie.Need-fill-requires
-fill-requires c κs = omega (arith, slots-fit (c .before .before .before), c .slots-of .ensures)
+fill-requires c κs = omega (arith, slots-fit (c .before .before .before .before), c .before .slots-of .ensures)
 
 size-of-requires : tie.Need-size-of-requires
 size-of-requires c κs = let s = start (place (c .before .before)) .pre .sound in omega (arith, s .slot-high, s .high)
@@ -127,8 +127,8 @@ mul-at c = record { fits = omega (arith, bytes-fit c) }
 size-of-requires-2 : tie.Need-size-of-requires-2
 size-of-requires-2 c κs = order-top (known (filled (c .before)))
 
-cast-fill-2 : tie.Need-cast-fill-2
-cast-fill-2 c = search needs
+cast-fill : tie.Need-cast-fill
+cast-fill c = search needs
 
 fill-requires-2 : tie.Need-fill-requires-2
 fill-requires-2 c κs = omega (arith, bytes-fit (c .before .before) .0, c .size-of2 .ensures)
@@ -176,6 +176,6 @@ returns-2 c =
 pub get-spec : {M : Type 1} → statement M
 get-spec =
     tie.close
-    (tie.spec needed-order-requires find-place-requires enum-told refused-requires enum-known-slot slots-of-requires cast-fill fill-requires
-    size-of-requires cast-at mul-at size-of-requires-2 cast-fill-2 fill-requires-2 cast-accepted add-accepted accepted-requires same-length returns
+    (tie.spec needed-order-requires find-place-requires enum-told refused-requires enum-known-slot slots-of-requires entry-of-requires fill-requires
+    size-of-requires cast-at mul-at size-of-requires-2 cast-fill fill-requires-2 cast-accepted add-accepted accepted-requires same-length returns
     same-length-2 same-length-3 returns-2)
