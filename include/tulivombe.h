@@ -11,6 +11,9 @@
  *   - no other thread writes them during the call.
  * The same holds of lent registers, a pointer to one struct.
  *
+ * The table. A free slot has the entry 0. Each slot of a block of 2^e bytes has the entry e, or e + 128 where the
+ * block is locked. A table that stands for no set of blocks in this way is damaged.
+ *
  * Pointers. A pointer into the heap is a number: the arena's first byte has the address 65536. With the
  * top bit set (TULIVOMBE_MARK) it is marked: it lies up to 8 bytes outside its block, and only
  * tulivombe_step takes it. Its block is sought one slot of 16 bytes back (address mod 16 below 8) or on
@@ -19,6 +22,9 @@
  * Answers. `number` is 0 or says why the call was refused; a refused call has value 0 and changes
  * nothing. Where several reasons apply, the first of the call's list ("Refused: ..") is given, which need not be
  * the smallest number: 27 is judged before 22.
+ *
+ * Locks. On a locked block write, fill, copy into it and give are refused 28, judged last. Anyone may unlock it: a
+ * lock keeps a block from being edited or given back by accident, and no more (docs/MANUAL.md, "Locked blocks").
  *
  * Guests. The bytes of one block can be kept from a guest who makes calls on the same heap: docs/MANUAL.md,
  * "A hidden block", says which calls to hold back.
@@ -41,14 +47,14 @@ extern "C" {
 #define TULIVOMBE_ANSWER_LENGTH 5   /* bytes of an answer: number, then value big-endian */
 #define TULIVOMBE_CALL_LENGTH 14    /* bytes of a call in a replay */
 
-/* What `number` can say. 1 to 13 and 26 speak of the input, 20 to 25 and 27 of the heap's state. */
+/* What `number` can say. 1 to 13 and 26 speak of the input, 20 to 25, 27 and 28 of the heap's state. */
 enum tulivombe_number {
     TULIVOMBE_OK = 0,
     TULIVOMBE_VERSION = 1,           /* file empty, or its first byte is not 01 */
     TULIVOMBE_SIZE = 2,              /* size byte missing, or not 5 to 16 */
     TULIVOMBE_FILE_TOO_LONG = 3,     /* file longer than TULIVOMBE_LONGEST_FILE bytes */
     TULIVOMBE_RECORD_LENGTH = 4,     /* record length 0, or more than the bytes left */
-    TULIVOMBE_OPERATION = 5,         /* operation not 1 to 8 */
+    TULIVOMBE_OPERATION = 5,         /* operation not 1 to 10 */
     TULIVOMBE_OPERATION_LENGTH = 6,  /* length wrong for the operation */
     TULIVOMBE_REGISTER = 7,          /* register above 15 */
     TULIVOMBE_LENGTHS = 8,           /* arena or table of a wrong length */
@@ -64,7 +70,8 @@ enum tulivombe_number {
     TULIVOMBE_BEYOND_REACH = 24,     /* step: more than 8 bytes outside the block */
     TULIVOMBE_PAST_THE_END = 25,     /* read, write: the last byte lies outside the block */
     TULIVOMBE_TOO_MANY_RECORDS = 26, /* front panel: more than TULIVOMBE_SCREENFUL records */
-    TULIVOMBE_OUTSIDE = 27           /* a pointer is sought outside the arena: it never was one into this heap */
+    TULIVOMBE_OUTSIDE = 27,          /* a pointer is sought outside the arena: it never was one into this heap */
+    TULIVOMBE_LOCKED = 28            /* write, fill, copy into, give: the block is locked */
 };
 
 /* A call's answer. */
@@ -95,7 +102,7 @@ typedef struct {
 /* One record of a take. The comment names the operations that have the field; the reader sets the others to
  * 0, and the writer ignores them. */
 typedef struct {
-    uint8_t operation; /* 1 get, 2 give, 3 step, 4 read, 5 write, 6 left, 7 copy, 8 fill */
+    uint8_t operation; /* 1 get, 2 give, 3 step, 4 read, 5 write, 6 left, 7 copy, 8 fill, 9 lock, 10 unlock */
     uint8_t d;         /* register for the value: get, step, read, left, copy, fill */
     uint8_t a;         /* register of p: all but get */
     uint8_t b;         /* register of q: copy */
@@ -114,11 +121,12 @@ typedef struct {
 tulivombe_answer tulivombe_fresh(uint8_t *arena, size_t arena_len, uint8_t *table, size_t table_len);
 
 /* Gets a block of the smallest power of two, from 16 up, that holds n bytes. All bytes of the block become 0,
- * whatever they held, and no other byte of the arena changes. Refused: 8, 10, 20, 21. Value: the block's start. */
+ * whatever they held, and no other byte of the arena changes; it is not locked. Refused: 8, 10, 20, 21. Value: the
+ * block's start. */
 tulivombe_answer tulivombe_get(uint8_t *arena, size_t arena_len, uint8_t *table, size_t table_len, uint32_t n);
 
-/* Gives the block that starts at p back. Its bytes stay as they are until a get makes a block of them or
- * tulivombe_fresh clears all. Refused: 8, 13, 20, 27, 22, 23. Value: 0. */
+/* Gives the block that starts at p back. Its bytes stay as they are until a get makes a block of them or the heap
+ * is made fresh, as by a run or a replay too. Refused: 8, 13, 20, 27, 22, 23, 28. Value: 0. */
 tulivombe_answer tulivombe_give(const uint8_t *arena, size_t arena_len, uint8_t *table, size_t table_len,
                                 uint32_t p);
 
@@ -131,7 +139,7 @@ tulivombe_answer tulivombe_step(const uint8_t *arena, size_t arena_len, const ui
 tulivombe_answer tulivombe_read(const uint8_t *arena, size_t arena_len, const uint8_t *table, size_t table_len,
                                 uint32_t p, uint8_t w);
 
-/* Writes v as w bytes (1, 2 or 4), big-endian, at p. Refused: 8, 11, 12, 13, 20, 27, 22, 25. Value: 0. */
+/* Writes v as w bytes (1, 2 or 4), big-endian, at p. Refused: 8, 11, 12, 13, 20, 27, 22, 25, 28. Value: 0. */
 tulivombe_answer tulivombe_write(uint8_t *arena, size_t arena_len, const uint8_t *table, size_t table_len,
                                  uint32_t p, uint8_t w, uint32_t v);
 
@@ -140,15 +148,26 @@ tulivombe_answer tulivombe_left(const uint8_t *arena, size_t arena_len, const ui
                                 uint32_t p);
 
 /* Copies up to n bytes from q to p, cut short at the end of either block. Where the two ranges overlap, as with
- * memmove, p gets what q's bytes were before the call. One pointer outside the arena is enough for 27, whatever
- * the other is, and else one at a free slot for 22. Refused: 8, 13, 20, 27, 22. Value: the count of bytes copied. */
+ * memmove, p gets what q's bytes were before the call. One marked pointer is enough for 13, then one outside the
+ * arena for 27, then one at a free slot for 22, whichever of the two it is. p's block must not be locked, also if
+ * n is 0; q's may be. Refused: 8, 13, 20, 27, 22, 28. Value: the count of bytes copied. */
 tulivombe_answer tulivombe_copy(uint8_t *arena, size_t arena_len, const uint8_t *table, size_t table_len,
                                 uint32_t p, uint32_t q, uint32_t n);
 
-/* Sets up to n bytes from p to v, cut short at the end of the block. Refused: 8, 13, 20, 27, 22. Value: the
- * count of bytes set. */
+/* Sets up to n bytes from p to v, cut short at the end of the block, which must not be locked, also if n is 0.
+ * Refused: 8, 13, 20, 27, 22, 28. Value: the count of bytes set. */
 tulivombe_answer tulivombe_fill(uint8_t *arena, size_t arena_len, const uint8_t *table, size_t table_len,
                                 uint32_t p, uint8_t v, uint32_t n);
+
+/* Locks the block that holds p: until it is unlocked, write, fill, copy into it and give are refused. Making
+ * the heap fresh asks for no lock. A second lock changes nothing. Refused: 8, 13, 20, 27, 22. Value: 0. */
+tulivombe_answer tulivombe_lock(const uint8_t *arena, size_t arena_len, uint8_t *table, size_t table_len,
+                                uint32_t p);
+
+/* Unlocks the block that holds p. Where it is not locked, this changes nothing. Refused: 8, 13, 20, 27, 22.
+ * Value: 0. */
+tulivombe_answer tulivombe_unlock(const uint8_t *arena, size_t arena_len, uint8_t *table, size_t table_len,
+                                  uint32_t p);
 
 /* Checks whether the sum of h, a plain pointer, and i, signed in two's complement, lies in h's block.
  * Refused: 8, 13, 20, 27, 22. Value: 1 or 0. */
@@ -180,7 +199,8 @@ uint32_t tulivombe_put_register(tulivombe_registers *registers, uint8_t d, uint3
 /* Makes a list of calls on a heap that it first makes fresh, and stores TULIVOMBE_ANSWER_LENGTH bytes a call in
  * `out`, as a run does; its bytes past them stay. A call is TULIVOMBE_CALL_LENGTH bytes: the operation as in a
  * record, a byte x, and three numbers a, b, c in 4 bytes each, big-endian:
- *     1 get a, 2 give a, 3 step a b, 4 read a x, 5 write a x b, 6 left a, 7 copy a b c, 8 fill a x c
+ *     1 get a, 2 give a, 3 step a b, 4 read a x, 5 write a x b, 6 left a, 7 copy a b c, 8 fill a x c,
+ *     9 lock a, 10 unlock a
  * with the arguments in the order of the calls above; what a call does not name is not looked at.
  * There may be any number of calls. Refused: 4 (no whole number of calls), 5 (in any of them), 8, 9, and then
  * nothing is changed. Returns the number. */

@@ -15,5 +15,6 @@ int main(void)
     NUMBER(FREE_SLOT);
     NUMBER(TOO_MANY_RECORDS);
     NUMBER(OUTSIDE);
+    NUMBER(LOCKED);
     return 0;
 }

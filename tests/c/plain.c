@@ -8,6 +8,7 @@
 #define BASE UINT32_C(65536)      /* the arena's first address */
 #define MARK UINT32_C(0x80000000) /* marks a pointer that lies outside its block */
 #define REACH 8                   /* how far outside it may lie */
+#define LOCK 0x80                 /* the bit of an entry that locks the block; the others are its order */
 #define SLOT 16
 #define SLOT_ORDER 4
 #define LARGEST_ORDER 16
@@ -22,7 +23,8 @@ enum refusal {
     FREE_SLOT = 22,
     NOT_THE_START = 23,
     BEYOND_REACH = 24,
-    OUTSIDE = 27
+    OUTSIDE = 27,
+    LOCKED = 28
 };
 
 typedef struct {
@@ -57,16 +59,22 @@ static bool lengths_fit(size_t arena_len, size_t table_len)
     return power_of_two && arena_len >= 32 && arena_len <= 65536 && table_len == arena_len / SLOT;
 }
 
+static unsigned order_of(uint8_t entry)
+{
+    return entry & ~LOCK;
+}
+
+/* Its slots must agree in order and lock. */
 static bool block_is_good(const uint8_t *table, size_t slots, size_t first)
 {
-    unsigned order = table[first];
+    unsigned order = order_of(table[first]);
     if (order < SLOT_ORDER || order > LARGEST_ORDER)
         return false;
     size_t count = slots_of(order);
     if (count > slots || (first & (count - 1)) != 0)
         return false;
     for (size_t slot = first + 1; slot < first + count; slot++)
-        if (table[slot] != order)
+        if (table[slot] != table[first])
             return false;
     return true;
 }
@@ -80,7 +88,7 @@ static bool damaged(const uint8_t *table, size_t slots)
         } else {
             if (!block_is_good(table, slots, slot))
                 return true;
-            slot += slots_of(table[slot]);
+            slot += slots_of(order_of(table[slot]));
         }
     }
     return false;
@@ -95,7 +103,7 @@ static enum refusal block_at(const uint8_t *table, size_t slots, uint32_t addres
         return OUTSIDE;
     if (table[slot] == 0)
         return FREE_SLOT;
-    block->size = UINT32_C(1) << table[slot];
+    block->size = UINT32_C(1) << order_of(table[slot]);
     block->start = offset & ~(block->size - 1);
     return NONE;
 }
@@ -125,7 +133,7 @@ static size_t find_place(const uint8_t *table, size_t slots, size_t wanted)
     size_t slot = 0;
     while (slot < slots) {
         if (table[slot] != 0) {
-            slot += slots_of(table[slot]);
+            slot += slots_of(order_of(table[slot]));
             continue;
         }
         size_t end = slot;
@@ -180,6 +188,8 @@ plain_answer plain_give(const uint8_t *arena, size_t arena_len, uint8_t *table, 
         return refused(missing);
     if (p - BASE != block.start)
         return refused(NOT_THE_START);
+    if (table[block.start / SLOT] & LOCK)
+        return refused(LOCKED);
     memset(table + block.start / SLOT, 0, block.size / SLOT);
     return accepted(0);
 }

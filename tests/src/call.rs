@@ -2,7 +2,7 @@
 
 use crate::subject::{Answer, Subject};
 
-/// One of the eight calls, with its arguments.
+/// One of the ten calls, with its arguments.
 #[derive(Clone, Copy, Debug, PartialEq, Eq)]
 pub enum Call {
     Get { n: u32 },
@@ -13,10 +13,12 @@ pub enum Call {
     Left { p: u32 },
     Copy { p: u32, q: u32, n: u32 },
     Fill { p: u32, v: u8, n: u32 },
+    Lock { p: u32 },
+    Unlock { p: u32 },
 }
 
-/// Each of the eight calls once, where the arguments don't matter.
-pub const CALLS: [Call; 8] = [
+/// Each of the ten calls once, where the arguments don't matter.
+pub const CALLS: [Call; 10] = [
     Call::Get { n: 0 },
     Call::Give { p: 0 },
     Call::Step { p: 0, i: 0 },
@@ -25,6 +27,8 @@ pub const CALLS: [Call; 8] = [
     Call::Left { p: 0 },
     Call::Copy { p: 0, q: 0, n: 0 },
     Call::Fill { p: 0, v: 0, n: 0 },
+    Call::Lock { p: 0 },
+    Call::Unlock { p: 0 },
 ];
 
 impl Call {
@@ -39,6 +43,8 @@ impl Call {
             Call::Left { p } => S::left(arena, table, p),
             Call::Copy { p, q, n } => S::copy(arena, table, p, q, n),
             Call::Fill { p, v, n } => S::fill(arena, table, p, v, n),
+            Call::Lock { p } => S::lock(arena, table, p),
+            Call::Unlock { p } => S::unlock(arena, table, p),
         }
     }
 
@@ -52,6 +58,8 @@ impl Call {
             Call::Left { .. } => "left",
             Call::Copy { .. } => "copy",
             Call::Fill { .. } => "fill",
+            Call::Lock { .. } => "lock",
+            Call::Unlock { .. } => "unlock",
         }
     }
 
@@ -62,6 +70,7 @@ impl Call {
             Call::Copy { p, q, .. } => vec![p, q],
             Call::Give { p } | Call::Step { p, .. } | Call::Read { p, .. } => vec![p],
             Call::Write { p, .. } | Call::Left { p } | Call::Fill { p, .. } => vec![p],
+            Call::Lock { p } | Call::Unlock { p } => vec![p],
         }
     }
 
@@ -76,6 +85,8 @@ impl Call {
             Call::Left { p } => (6, 0, [p, 0, 0]),
             Call::Copy { p, q, n } => (7, 0, [p, q, n]),
             Call::Fill { p, v, n } => (8, v, [p, 0, n]),
+            Call::Lock { p } => (9, 0, [p, 0, 0]),
+            Call::Unlock { p } => (10, 0, [p, 0, 0]),
         };
         let mut bytes = [0; 14];
         bytes[..2].copy_from_slice(&[operation, x]);
@@ -85,7 +96,7 @@ impl Call {
         bytes
     }
 
-    /// The call of 14 bytes, if its operation is one of the eight.
+    /// The call of 14 bytes, if its operation is one of the ten.
     pub fn decode(bytes: &[u8]) -> Option<Call> {
         let &[operation, x, ref numbers @ ..] = bytes else {
             return None;
@@ -101,6 +112,8 @@ impl Call {
             6 => Some(Call::Left { p }),
             7 => Some(Call::Copy { p, q: second, n: third }),
             8 => Some(Call::Fill { p, v: x, n: third }),
+            9 => Some(Call::Lock { p }),
+            10 => Some(Call::Unlock { p }),
             _ => None,
         }
     }

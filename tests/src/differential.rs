@@ -48,11 +48,11 @@ impl Case {
     }
 
     /// A stranger writes one entry of the table.
-    fn poke(&mut self, rng: &mut Rng) {
+    fn poke(&mut self, rng: &mut Rng, m: u32) {
         let slots = self.tables[0].bytes().len() as u32;
         if slots > 0 {
             let at = rng.below(slots) as usize;
-            let entry = rng.pick(&[0, 1, 4, 5, 6, 16, 17, 132]);
+            let entry = random::foreign_entry(rng, m, self.tables[0].bytes()[at]);
             self.tables.iter_mut().for_each(|table| table.bytes_mut()[at] = entry);
         }
     }
@@ -117,7 +117,7 @@ fn call_lists(rng: &mut Rng, lists: u32, largest: u32, names: &str, make_one: Ma
         let length = if m > 10 { 8 } else { rng.within(1, 40) };
         for index in 0..length {
             if rng.once_in(64) {
-                heaps.poke(rng);
+                heaps.poke(rng, m);
             }
             let what = format!("{names}, list {list}, call {index}, m = {m}");
             let (call, number) = make_one(rng, &mut heaps, m, &mut known, &what);
@@ -257,7 +257,7 @@ pub fn replays<A: Subject, B: Subject>(rng: &mut Rng, lists: u32, largest: u32) 
         }
         if rng.once_in(6) && !list.is_empty() {
             let at = rng.below(list.len() as u32) as usize;
-            list[at / 14 * 14] = rng.pick(&[0, 1, 8, 9, 255]);
+            list[at / 14 * 14] = rng.pick(&[0, 1, 10, 11, 255]);
         }
         if rng.once_in(8) {
             list.resize(list.len() + rng.within(1, 13) as usize, 1);
@@ -334,6 +334,8 @@ fn spoiled(rng: &mut Rng) -> Record {
         Record::Left { .. } => Record::Left { d, a },
         Record::Copy { n, .. } => Record::Copy { d, a, b, n },
         Record::Fill { v, n, .. } => Record::Fill { d, a, v, n },
+        Record::Lock { .. } => Record::Lock { a },
+        Record::Unlock { .. } => Record::Unlock { a },
     }
 }
 

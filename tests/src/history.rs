@@ -2,7 +2,7 @@
 //! that is live by the history.
 
 use crate::call::Call;
-use crate::ledger::{damaged, order_needed, ranges, Ledger, Pair};
+use crate::ledger::{damaged, order_needed, ranges, Block, Ledger};
 use crate::random::{self, Rng};
 use crate::subject::{Answer, Subject};
 
@@ -43,9 +43,11 @@ fn one_list<S: Subject>(rng: &mut Rng, m: u32, length: u32) -> usize {
     assert_eq!(table, ledger.table(), "{}: table after {history:?}", S::NAME);
     assert!(!damaged(&table, m), "{}: damaged after {history:?}", S::NAME);
     let mut blocks = live(&history);
+    let mut pairs: Vec<Block> = ledger.pairs.iter().map(|pair| pair.block).collect();
     blocks.sort();
-    ledger.pairs.sort();
-    assert_eq!(blocks, ledger.pairs, "{}: blocks after {history:?}", S::NAME);
+    pairs.sort();
+    // by starts and orders: the locks are in the table, which was compared
+    assert_eq!(blocks, pairs, "{}: blocks after {history:?}", S::NAME);
     for (k, &block) in blocks.iter().enumerate() {
         assert!(!blocks[..k].iter().any(|other| other.shares_a_byte(block)), "{}: overlap", S::NAME);
         checks_agree::<S>(rng, &arena, &table, block);
@@ -55,19 +57,19 @@ fn one_list<S: Subject>(rng: &mut Rng, m: u32, length: u32) -> usize {
 }
 
 /// The blocks live by the history: by arguments and answers alone.
-fn live(history: &[(Call, Answer)]) -> Vec<Pair> {
+fn live(history: &[(Call, Answer)]) -> Vec<Block> {
     let mut blocks = Vec::new();
     for &(call, answer) in history.iter().filter(|(_, answer)| answer.number == 0) {
         match call {
-            Call::Get { n } => blocks.push(Pair { start: i64::from(answer.value), order: order_needed(n) }),
-            Call::Give { p } => blocks.retain(|block: &Pair| block.start != i64::from(p)),
+            Call::Get { n } => blocks.push(Block { start: i64::from(answer.value), order: order_needed(n) }),
+            Call::Give { p } => blocks.retain(|block: &Block| block.start != i64::from(p)),
             _ => {}
         }
     }
     blocks
 }
 
-fn no_room_exactly_when_none_free(m: u32, n: u32, answer: Answer, blocks: &[Pair]) {
+fn no_room_exactly_when_none_free(m: u32, n: u32, answer: Answer, blocks: &[Block]) {
     if n == 0 || n > 1 << m {
         assert_eq!(answer.number, 10);
         return;
@@ -79,7 +81,7 @@ fn no_room_exactly_when_none_free(m: u32, n: u32, answer: Answer, blocks: &[Pair
 }
 
 /// The public check passes exactly for the sums that lie in the block.
-fn checks_agree<S: Subject>(rng: &mut Rng, arena: &[u8], table: &[u8], block: Pair) {
+fn checks_agree<S: Subject>(rng: &mut Rng, arena: &[u8], table: &[u8], block: Block) {
     for _ in 0..12 {
         let h = block.start + i64::from(rng.below(block.size() as u32));
         let i = match rng.below(4) {
@@ -94,7 +96,7 @@ fn checks_agree<S: Subject>(rng: &mut Rng, arena: &[u8], table: &[u8], block: Pa
 }
 
 /// Each marked pointer in reach leads back to the block.
-fn marks_lead_back<S: Subject>(rng: &mut Rng, arena: &[u8], table: &[u8], block: Pair) {
+fn marks_lead_back<S: Subject>(rng: &mut Rng, arena: &[u8], table: &[u8], block: Block) {
     for away in 1..=8 {
         for address in [block.start - away, block.end() + away] {
             let target = block.start + i64::from(rng.below(block.size() as u32));

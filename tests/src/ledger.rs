@@ -9,8 +9,8 @@ const BASE: i64 = 65_536;
 const MARK: u32 = 2_147_483_648;
 
 /// The numbers of the calls in the order in which they are judged: a refused call gives the first that applies. They
-/// rise, but 27 is "judged just before 22".
-pub const JUDGED: [u32; 12] = [8, 10, 11, 12, 13, 20, 21, 27, 22, 23, 24, 25];
+/// rise, but 27 is "judged just before 22"; 28 is "judged last".
+pub const JUDGED: [u32; 13] = [8, 10, 11, 12, 13, 20, 21, 27, 22, 23, 24, 25, 28];
 
 /// Numbers that can refuse a call, each with whether it applies.
 pub type Refusals = Vec<(u32, bool)>;
@@ -44,14 +44,14 @@ pub fn can_refuse_records() -> BTreeMap<&'static str, Vec<u32>> {
     all
 }
 
-/// A block by its first address and order.
+/// A block by its first address and order, or any aligned range by them.
 #[derive(Clone, Copy, Debug, PartialEq, Eq, PartialOrd, Ord)]
-pub struct Pair {
+pub struct Block {
     pub start: i64,
     pub order: u32,
 }
 
-impl Pair {
+impl Block {
     pub fn size(self) -> i64 {
         2i64.pow(self.order)
     }
@@ -64,9 +64,26 @@ impl Pair {
         self.start <= address && address <= self.end()
     }
 
-    pub fn shares_a_byte(self, other: Pair) -> bool {
+    pub fn shares_a_byte(self, other: Block) -> bool {
         self.start <= other.end() && other.start <= self.end()
     }
+}
+
+/// A pair of the ledger: start and order, and since request 7 whether the block is locked.
+#[derive(Clone, Copy, Debug, PartialEq, Eq)]
+pub struct Pair {
+    pub block: Block,
+    pub locked: bool,
+}
+
+/// "The top bit of a table entry, 128, says that the block is locked".
+pub fn locked_by(entry: u8) -> bool {
+    entry / 128 == 1
+}
+
+/// "the other bits remain the order". Of a free slot it is 0.
+pub fn order_of(entry: u8) -> u32 {
+    u32::from(entry % 128)
 }
 
 /// The order that a get of n bytes needs.
@@ -75,8 +92,8 @@ pub fn order_needed(n: u32) -> u32 {
 }
 
 /// All aligned ranges of order k in an arena of order m, from the left.
-pub fn ranges(m: u32, k: u32) -> impl Iterator<Item = Pair> {
-    (0..2i64.pow(m - k)).map(move |j| Pair { start: BASE + j * 2i64.pow(k), order: k })
+pub fn ranges(m: u32, k: u32) -> impl Iterator<Item = Block> {
+    (0..2i64.pow(m - k)).map(move |j| Block { start: BASE + j * 2i64.pow(k), order: k })
 }
 
 /// The address that a pointer's home is sought at.
@@ -91,19 +108,20 @@ pub fn sought(p: u32) -> i64 {
     }
 }
 
-/// Whether a table of an arena of order m is damaged, slot by slot.
+/// Whether a table of an arena of order m is damaged, slot by slot: by an order that is neither 0 nor 4 to m, by a free
+/// slot with the top bit set, or by a slot of a block with another order or another top bit.
 pub fn damaged(table: &[u8], m: u32) -> bool {
     (0..table.len()).any(|slot| {
-        let entry = u32::from(table[slot]);
-        if entry == 0 {
-            return false;
+        let (order, locked) = (order_of(table[slot]), locked_by(table[slot]));
+        if order == 0 {
+            return locked;
         }
-        if entry < 4 || entry > m {
+        if order < 4 || order > m {
             return true;
         }
-        let slots = 2usize.pow(entry - 4);
+        let slots = 2usize.pow(order - 4);
         let first = slot - slot % slots;
-        (first..first + slots).any(|other| table[other] != table[slot])
+        (first..first + slots).any(|other| order_of(table[other]) != order || locked_by(table[other]) != locked)
     })
 }
 
@@ -119,13 +137,18 @@ impl Ledger {
         Ledger { m, pairs: Vec::new(), bytes: vec![0; 2usize.pow(m)] }
     }
 
-    pub fn home(&self, p: u32) -> Option<Pair> {
-        self.pairs.iter().copied().find(|pair| pair.holds(sought(p)))
+    pub fn home(&self, p: u32) -> Option<Block> {
+        self.pairs.iter().map(|pair| pair.block).find(|block| block.holds(sought(p)))
+    }
+
+    /// Whether a pointer has a home, and that is locked.
+    pub fn locked(&self, p: u32) -> bool {
+        self.pairs.iter().any(|pair| pair.block.holds(sought(p)) && pair.locked)
     }
 
     /// Whether the address that a pointer's home is sought at lies outside the arena.
     pub fn outside(&self, p: u32) -> bool {
-        !Pair { start: BASE, order: self.m }.holds(sought(p))
+        !Block { start: BASE, order: self.m }.holds(sought(p))
     }
 
     /// Whether it lies in the arena, in a slot that no pair's range holds.
@@ -141,13 +164,13 @@ impl Ledger {
     /// Where a block of order e is put: orders upward, ranges from the left.
     pub fn placing(&self, e: u32) -> Option<i64> {
         let slots = self.free_slots();
-        let free = |range: Pair| {
+        let free = |range: Block| {
             let first = (range.start - BASE) / 16;
             (first..first + range.size() / 16).all(|slot| slots[slot as usize])
         };
-        let maximal = |range: Pair| {
+        let maximal = |range: Block| {
             let twice = 2 * range.size();
-            let round = Pair { start: BASE + (range.start - BASE) / twice * twice, order: range.order + 1 };
+            let round = Block { start: BASE + (range.start - BASE) / twice * twice, order: range.order + 1 };
             range.order == self.m || !free(round)
         };
         let range = (e..=self.m).flat_map(|k| ranges(self.m, k)).find(|&range| free(range) && maximal(range));
@@ -157,9 +180,10 @@ impl Ledger {
     /// The one table of the pairs.
     pub fn table(&self) -> Vec<u8> {
         let mut table = vec![0; 2usize.pow(self.m - 4)];
-        for pair in &self.pairs {
-            let first = ((pair.start - BASE) / 16) as usize;
-            table[first..first + (pair.size() / 16) as usize].fill(pair.order as u8);
+        for &Pair { block, locked } in &self.pairs {
+            let first = ((block.start - BASE) / 16) as usize;
+            let entry = block.order + if locked { 128 } else { 0 };
+            table[first..first + (block.size() / 16) as usize].fill(entry as u8);
         }
         table
     }
@@ -177,7 +201,8 @@ impl Ledger {
         let any_marked = |pointers: &[u32]| (13, pointers.iter().any(|&p| p >= MARK));
         let bad_width = |w: u8| (11, ![1, 2, 4].contains(&w));
         let too_wide = |w: u8, v: u32| (12, i64::from(v) >= 256i64.pow(u32::from(w.min(4))));
-        let past = |p: u32, w: u8| self.home(p).is_some_and(|home| i64::from(p) + i64::from(w) - 1 > home.end());
+        let past = |p: u32, w: u8| (25, self.home(p).is_some_and(|home| i64::from(p) + i64::from(w) - 1 > home.end()));
+        let locked = |p: u32| (28, self.locked(p));
         let own = match call {
             Call::Get { n } => {
                 let bad = n == 0 || i64::from(n) > 2i64.pow(self.m);
@@ -185,17 +210,18 @@ impl Ledger {
             }
             Call::Give { p } => {
                 let inside = self.home(p).is_some_and(|home| home.start != i64::from(p));
-                vec![any_marked(&[p]), (23, inside)]
+                vec![any_marked(&[p]), (23, inside), locked(p)]
             }
             Call::Step { p, i } => {
                 let r = i64::from(p % MARK) + i64::from(i as i32);
                 let beyond = self.home(p).is_some_and(|home| r < home.start - 8 || r > home.end() + 8);
                 vec![(24, beyond)]
             }
-            Call::Read { p, w } => vec![bad_width(w), any_marked(&[p]), (25, past(p, w))],
-            Call::Write { p, w, v } => vec![bad_width(w), too_wide(w, v), any_marked(&[p]), (25, past(p, w))],
-            Call::Left { p } | Call::Fill { p, .. } => vec![any_marked(&[p])],
-            Call::Copy { p, q, .. } => vec![any_marked(&[p, q])],
+            Call::Read { p, w } => vec![bad_width(w), any_marked(&[p]), past(p, w)],
+            Call::Write { p, w, v } => vec![bad_width(w), too_wide(w, v), any_marked(&[p]), past(p, w), locked(p)],
+            Call::Left { p } | Call::Lock { p } | Call::Unlock { p } => vec![any_marked(&[p])],
+            Call::Copy { p, q, .. } => vec![any_marked(&[p, q]), locked(p)],
+            Call::Fill { p, .. } => vec![any_marked(&[p]), locked(p)],
         };
         [own, self.missing(&call.pointers())].concat()
     }
@@ -211,18 +237,9 @@ impl Ledger {
 
     fn accept(&mut self, call: Call) -> u32 {
         match call {
-            Call::Get { n } => {
-                let order = order_needed(n);
-                let start = self.placing(order).expect("not refused 21");
-                let pair = Pair { start, order };
-                for address in start..=pair.end() {
-                    *self.byte(address) = 0;
-                }
-                self.pairs.push(pair);
-                start as u32
-            }
+            Call::Get { n } => self.add(order_needed(n)),
             Call::Give { p } => {
-                self.pairs.retain(|pair| pair.start != i64::from(p));
+                self.pairs.retain(|pair| pair.block.start != i64::from(p));
                 0
             }
             Call::Step { p, i } => {
@@ -237,28 +254,46 @@ impl Ledger {
                 (0..i64::from(w)).fold(0, |value, k| value * 256 + u32::from(*self.byte(i64::from(p) + k)))
             }
             Call::Write { p, w, v } => {
-                for k in 0..u32::from(w) {
-                    let digit = v / 256u32.pow(u32::from(w) - 1 - k) % 256;
-                    *self.byte(i64::from(p) + i64::from(k)) = digit as u8;
-                }
+                self.store(p, (0..u32::from(w)).rev().map(|place| (v / 256u32.pow(place) % 256) as u8).collect());
                 0
             }
             Call::Left { p } => self.left(p) as u32,
             Call::Copy { p, q, n } => {
                 let count = i64::from(n).min(self.left(p)).min(self.left(q));
-                let before: Vec<u8> = (0..count).map(|k| *self.byte(i64::from(q) + k)).collect();
-                for (k, byte) in (0..).zip(before) {
-                    *self.byte(i64::from(p) + k) = byte;
-                }
+                let before = (0..count).map(|k| *self.byte(i64::from(q) + k)).collect();
+                self.store(p, before);
                 count as u32
             }
             Call::Fill { p, v, n } => {
                 let count = i64::from(n).min(self.left(p));
-                for k in 0..count {
-                    *self.byte(i64::from(p) + k) = v;
-                }
+                self.store(p, vec![v; count as usize]);
                 count as u32
             }
+            Call::Lock { p } => self.set_lock(p, true),
+            Call::Unlock { p } => self.set_lock(p, false),
+        }
+    }
+
+    /// The pair that the placing rule names is added, not locked, and its bytes are cleared. Gives its start.
+    fn add(&mut self, order: u32) -> u32 {
+        let start = self.placing(order).expect("not refused 21");
+        let block = Block { start, order };
+        self.store(start as u32, vec![0; block.size() as usize]);
+        self.pairs.push(Pair { block, locked: false });
+        start as u32
+    }
+
+    /// The pair that holds p is locked from now on, or is not: whatever it was before. Gives the call's value.
+    fn set_lock(&mut self, p: u32, locked: bool) -> u32 {
+        let home = |pair: &&mut Pair| pair.block.holds(sought(p));
+        self.pairs.iter_mut().find(home).expect("it has a home").locked = locked;
+        0
+    }
+
+    /// Bytes go to the addresses from p on.
+    fn store(&mut self, p: u32, bytes: Vec<u8>) {
+        for (k, byte) in (0..).zip(bytes) {
+            *self.byte(i64::from(p) + k) = byte;
         }
     }
 

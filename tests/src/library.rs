@@ -44,6 +44,8 @@ unsafe extern "C" {
     fn tulivombe_left(arena: *const u8, arena_len: usize, table: *const u8, table_len: usize, p: u32) -> Answer;
     fn tulivombe_copy(arena: *mut u8, arena_len: usize, table: *const u8, table_len: usize, p: u32, q: u32, n: u32) -> Answer;
     fn tulivombe_fill(arena: *mut u8, arena_len: usize, table: *const u8, table_len: usize, p: u32, v: u8, n: u32) -> Answer;
+    fn tulivombe_lock(arena: *const u8, arena_len: usize, table: *mut u8, table_len: usize, p: u32) -> Answer;
+    fn tulivombe_unlock(arena: *const u8, arena_len: usize, table: *mut u8, table_len: usize, p: u32) -> Answer;
     fn tulivombe_check(arena: *const u8, arena_len: usize, table: *const u8, table_len: usize, h: u32, i: u32) -> Answer;
     fn tulivombe_show(arena: *const u8, arena_len: usize, table: *const u8, table_len: usize, p: u32) -> Part;
     fn tulivombe_run(file: *const u8, file_len: usize, arena: *mut u8, arena_len: usize, table: *mut u8, table_len: usize, answers: *mut u8, answers_len: usize) -> Ran;
@@ -103,6 +105,16 @@ impl Subject for Library {
     #[inline]
     fn fill(arena: &mut [u8], table: &[u8], p: u32, v: u8, n: u32) -> Answer {
         unsafe { tulivombe_fill(arena.as_mut_ptr(), arena.len(), table.as_ptr(), table.len(), p, v, n) }
+    }
+
+    #[inline]
+    fn lock(arena: &[u8], table: &mut [u8], p: u32) -> Answer {
+        unsafe { tulivombe_lock(arena.as_ptr(), arena.len(), table.as_mut_ptr(), table.len(), p) }
+    }
+
+    #[inline]
+    fn unlock(arena: &[u8], table: &mut [u8], p: u32) -> Answer {
+        unsafe { tulivombe_unlock(arena.as_ptr(), arena.len(), table.as_mut_ptr(), table.len(), p) }
     }
 
     #[inline]
@@ -172,6 +184,8 @@ fn flat(record: Record) -> FlatRecord {
         Record::Left { d, a } => FlatRecord { operation: 6, d, a, ..none },
         Record::Copy { d, a, b, n } => FlatRecord { operation: 7, d, a, b, word: n, ..none },
         Record::Fill { d, a, v, n } => FlatRecord { operation: 8, d, a, byte: v, word: n, ..none },
+        Record::Lock { a } => FlatRecord { operation: 9, a, ..none },
+        Record::Unlock { a } => FlatRecord { operation: 10, a, ..none },
     }
 }
 
@@ -187,6 +201,8 @@ fn structured(given: FlatRecord) -> Record {
         6 => Record::Left { d, a },
         7 => Record::Copy { d, a, b, n: word },
         8 => Record::Fill { d, a, v: byte, n: word },
+        9 => Record::Lock { a },
+        10 => Record::Unlock { a },
         _ => panic!("the reader gave operation {operation}"),
     };
     assert_eq!(flat(record), given, "a field that the operation lacks is not 0");

@@ -1,7 +1,7 @@
 //! A small generator of random numbers, and of the calls, tables and files that the tests use.
 
 use crate::call::Call;
-use crate::plain::heap::{BASE, MARK};
+use crate::plain::heap::{BASE, LOCK, MARK};
 use crate::plain::takes;
 use crate::record::Record;
 
@@ -85,8 +85,24 @@ impl Rng {
     }
 }
 
-/// An undamaged table of an arena of order m, with blocks of all orders.
+/// An undamaged table of an arena of order m, with blocks of all orders: none of them locked, some or all.
 pub fn sound_table(rng: &mut Rng, m: u32) -> Vec<u8> {
+    let mut table = unlocked_table(rng, m);
+    let share = rng.pick(&[0, 0, 1, 4]);
+    let mut slot = 0;
+    while slot < table.len() {
+        let order = u32::from(table[slot]).max(4);
+        let block = &mut table[slot..slot + (1 << (order - 4))];
+        if block[0] != 0 && rng.below(4) < share {
+            block.iter_mut().for_each(|entry| *entry |= LOCK);
+        }
+        slot += block.len();
+    }
+    table
+}
+
+/// The same, no block being locked.
+pub fn unlocked_table(rng: &mut Rng, m: u32) -> Vec<u8> {
     let mut table = vec![0; 1 << (m - 4)];
     let density = rng.within(1, 4);
     settle(rng, &mut table, m, density);
@@ -119,19 +135,22 @@ pub fn any_table(rng: &mut Rng, m: u32) -> Vec<u8> {
             let mut table = sound_table(rng, m);
             for _ in 0..rng.within(1, 3) {
                 let at = rng.below(table.len() as u32) as usize;
-                table[at] = damage(rng, m);
+                table[at] = foreign_entry(rng, m, table[at]);
             }
             table
         }
-        _ => (0..1 << (m - 4)).map(|_| damage(rng, m)).collect(),
+        _ => (0..1 << (m - 4)).map(|_| foreign_entry(rng, m, 0)).collect(),
     }
 }
 
-fn damage(rng: &mut Rng, m: u32) -> u8 {
-    match rng.below(4) {
+/// What a stranger may write over an entry: any byte, an order or what is none, locked or not, or the entry itself with
+/// its top bit turned.
+pub fn foreign_entry(rng: &mut Rng, m: u32, entry: u8) -> u8 {
+    match rng.below(6) {
         0 => rng.byte(),
-        1 => rng.pick(&[0, 1, 3, 4, 5, 16, 17, 128, 132, 255]),
-        _ => rng.within(4, m + 1) as u8,
+        1 => rng.pick(&[0, 1, 3, 4, 5, 16, 17, 127]) | rng.pick(&[0, LOCK]),
+        2 => entry ^ LOCK,
+        _ => rng.within(4, m + 1) as u8 | rng.pick(&[0, 0, LOCK]),
     }
 }
 
@@ -170,7 +189,8 @@ fn near_a_block(rng: &mut Rng, table: &[u8]) -> u32 {
         }
         slot = rng.below(slots);
     }
-    let order = u32::from(table.get(slot as usize).copied().unwrap_or(4)).clamp(4, 16);
+    let entry = table.get(slot as usize).copied().unwrap_or(4);
+    let order = u32::from(entry & !LOCK).clamp(4, 16);
     let size = 1 << order;
     let start = BASE + (16 * slot / size * size);
     match rng.below(8) {
@@ -231,7 +251,7 @@ fn stored(rng: &mut Rng, w: u8) -> u32 {
 
 /// A call on a heap with this table; `known` are values that earlier calls gave.
 pub fn call(rng: &mut Rng, table: &[u8], m: u32, known: &[u32]) -> Call {
-    match rng.below(11) {
+    match rng.below(13) {
         0..=2 => Call::Get { n: amount(rng, m) },
         3 => Call::Give { p: pointer(rng, table, known) },
         4 | 5 => Call::Step { p: pointer(rng, table, known), i: distance(rng, m) },
@@ -251,7 +271,9 @@ pub fn call(rng: &mut Rng, table: &[u8], m: u32, known: &[u32]) -> Call {
             };
             Call::Copy { p, q, n: amount(rng, m) }
         }
-        _ => Call::Fill { p: pointer(rng, table, known), v: rng.byte(), n: amount(rng, m) },
+        10 => Call::Fill { p: pointer(rng, table, known), v: rng.byte(), n: amount(rng, m) },
+        11 => Call::Lock { p: pointer(rng, table, known) },
+        _ => Call::Unlock { p: pointer(rng, table, known) },
     }
 }
 
@@ -263,7 +285,7 @@ pub fn record(rng: &mut Rng, m: u32, registers: u32) -> Record {
 
 /// A record with these registers; values that are no pointers often go where no pointer is kept.
 fn record_of(rng: &mut Rng, m: u32, d: u8, a: u8, b: u8) -> Record {
-    match rng.below(10) {
+    match rng.below(12) {
         0..=2 => Record::Get { d, n: amount(rng, m) },
         3 => Record::Give { a },
         4 => Record::Step { d, a, i: distance(rng, m) },
@@ -274,7 +296,9 @@ fn record_of(rng: &mut Rng, m: u32, d: u8, a: u8, b: u8) -> Record {
         }
         7 => Record::Left { d: if rng.once_in(3) { d } else { 14 }, a },
         8 => Record::Copy { d: if rng.once_in(3) { d } else { 13 }, a, b, n: amount(rng, m) },
-        _ => Record::Fill { d: if rng.once_in(3) { d } else { 12 }, a, v: rng.byte(), n: amount(rng, m) },
+        9 => Record::Fill { d: if rng.once_in(3) { d } else { 12 }, a, v: rng.byte(), n: amount(rng, m) },
+        10 => Record::Lock { a },
+        _ => Record::Unlock { a },
     }
 }
 
@@ -305,6 +329,35 @@ fn end_of_a_block(rng: &mut Rng, m: u32, registers: u32) -> [Record; 7] {
     ]
 }
 
+/// Records that give a new block back, and two that still use its pointer.
+fn given_back(rng: &mut Rng, m: u32, registers: u32) -> [Record; 4] {
+    let [a, b] = [(); 2].map(|()| rng.below(registers) as u8);
+    [
+        Record::Get { d: a, n: rng.within(1, 40) },
+        Record::Give { a },
+        record_of(rng, m, b, a, b),
+        record_of(rng, m, b, a, b),
+    ]
+}
+
+/// Records that lock a new block by an address of it, store into it and give it at its start and near its end; then
+/// mostly its unlocking, and one more.
+fn locked_block(rng: &mut Rng, m: u32, registers: u32) -> [Record; 8] {
+    let [a, b] = [(); 2].map(|()| rng.below(registers) as u8);
+    let mut either = || rng.pick(&[a, b]);
+    let [locked, given, filled, to, from] = [(); 5].map(|()| either());
+    [
+        Record::Get { d: a, n: rng.within(1, 16) },
+        Record::Step { d: b, a, i: rng.within(13, 15) },
+        Record::Lock { a: locked },
+        Record::Write { a: rng.pick(&[a, b]), w: 4, v: rng.word() },
+        Record::Give { a: given },
+        rng.pick(&[Record::Fill { d: 12, a: filled, v: 1, n: 0 }, Record::Copy { d: 13, a: to, b: from, n: 0 }]),
+        rng.pick(&[Record::Unlock { a }, Record::Unlock { a }, Record::Lock { a }]),
+        record_of(rng, m, b, a, b),
+    ]
+}
+
 /// A file with up to `most` records, broken once in three.
 pub fn file(rng: &mut Rng, m: u32, most: u32) -> Vec<u8> {
     let registers = rng.pick(&[3, 6, 16]);
@@ -314,6 +367,8 @@ pub fn file(rng: &mut Rng, m: u32, most: u32) -> Vec<u8> {
         match rng.below(40) {
             0 => records.extend(shift(rng, m, registers)),
             1 => records.extend(end_of_a_block(rng, m, registers)),
+            2 => records.extend(locked_block(rng, m, registers)),
+            3 => records.extend(given_back(rng, m, registers)),
             _ => records.push(record(rng, m, registers)),
         }
     }

@@ -11,6 +11,8 @@ pub enum Record {
     Left { d: u8, a: u8 },
     Copy { d: u8, a: u8, b: u8, n: u32 },
     Fill { d: u8, a: u8, v: u8, n: u32 },
+    Lock { a: u8 },
+    Unlock { a: u8 },
 }
 
 impl Record {
@@ -25,6 +27,8 @@ impl Record {
             Record::Left { .. } => "left",
             Record::Copy { .. } => "copy",
             Record::Fill { .. } => "fill",
+            Record::Lock { .. } => "lock",
+            Record::Unlock { .. } => "unlock",
         }
     }
 }

@@ -84,6 +84,8 @@ pub trait Subject {
     fn left(arena: &[u8], table: &[u8], p: u32) -> Answer;
     fn copy(arena: &mut [u8], table: &[u8], p: u32, q: u32, n: u32) -> Answer;
     fn fill(arena: &mut [u8], table: &[u8], p: u32, v: u8, n: u32) -> Answer;
+    fn lock(arena: &[u8], table: &mut [u8], p: u32) -> Answer;
+    fn unlock(arena: &[u8], table: &mut [u8], p: u32) -> Answer;
     fn check(arena: &[u8], table: &[u8], h: u32, i: u32) -> Answer;
     fn show(arena: &[u8], table: &[u8], p: u32) -> Part;
     fn run(file: &[u8], arena: &mut [u8], table: &mut [u8], answers: &mut [u8]) -> Ran;
@@ -143,6 +145,16 @@ impl Subject for Plain {
     #[inline(never)]
     fn fill(arena: &mut [u8], table: &[u8], p: u32, v: u8, n: u32) -> Answer {
         heap::fill::<false>(arena, table, p, v, n).into()
+    }
+
+    #[inline(never)]
+    fn lock(arena: &[u8], table: &mut [u8], p: u32) -> Answer {
+        heap::lock::<false>(arena, table, p).into()
+    }
+
+    #[inline(never)]
+    fn unlock(arena: &[u8], table: &mut [u8], p: u32) -> Answer {
+        heap::unlock::<false>(arena, table, p).into()
     }
 
     #[inline(never)]

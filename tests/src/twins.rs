@@ -4,12 +4,12 @@ use std::ops::Range;
 
 use crate::call::Call;
 use crate::differential::buffers;
-use crate::ledger::Pair;
+use crate::ledger::{order_of, Block};
 use crate::plain::heap::BASE;
 use crate::random::{self, Rng};
 use crate::subject::{Answer, Subject};
 
-/// A damaged table has entries up to 255. A block of this order already holds every address from its start on.
+/// A damaged table has orders up to 127. A block of this order already holds every address from its start on.
 const WHOLE: u32 = 40;
 
 /// What stays out of a list until the block is given back.
@@ -23,7 +23,7 @@ pub enum Bar {
 }
 
 /// Whether an accepted read shows a byte of the block, or an accepted copy carries one out of it.
-pub fn reveals(block: Pair, call: Call, answer: Answer) -> bool {
+pub fn reveals(block: Block, call: Call, answer: Answer) -> bool {
     let inside = |p: u32, j: u32| block.holds(i64::from(p) + i64::from(j));
     match call {
         _ if answer.number != 0 => false,
@@ -34,7 +34,7 @@ pub fn reveals(block: Pair, call: Call, answer: Answer) -> bool {
 }
 
 /// Whether a read or a copy source lies in the block, by its pointer, refused or not.
-pub fn source_in(block: Pair, call: Call) -> bool {
+pub fn source_in(block: Block, call: Call) -> bool {
     match call {
         Call::Read { p, .. } => block.holds(i64::from(p)),
         Call::Copy { q, .. } => block.holds(i64::from(q)),
@@ -51,7 +51,7 @@ struct Heap {
 /// Two heaps with one table, whose arenas are equal but for the block.
 pub struct Twins {
     heaps: [Heap; 2],
-    pub block: Pair,
+    pub block: Block,
     pub given_back: bool,
     m: u32,
     known: Vec<u32>,
@@ -93,6 +93,8 @@ impl Twins {
             Call::Read { w, .. } => Call::Read { p, w },
             Call::Write { w, v, .. } => Call::Write { p, w, v },
             Call::Fill { v, n, .. } => Call::Fill { p, v, n },
+            Call::Lock { .. } => Call::Lock { p },
+            Call::Unlock { .. } => Call::Unlock { p },
             Call::Step { .. } | Call::Left { .. } | Call::Copy { .. } => self.copy(rng),
         }
     }
@@ -168,12 +170,12 @@ impl Twins {
 }
 
 /// The block's size, at most that of the largest arena.
-fn size(block: Pair) -> u32 {
+fn size(block: Block) -> u32 {
     1 << block.order.min(16)
 }
 
 /// An address of the block, often one where a read or write of 2 or 4 bytes goes past its end.
-fn inside(rng: &mut Rng, block: Pair) -> u32 {
+fn inside(rng: &mut Rng, block: Block) -> u32 {
     let size = size(block);
     let offset = if rng.once_in(3) { size - rng.within(1, size.min(3)) } else { rng.below(size) };
     block.start as u32 + offset
@@ -181,14 +183,14 @@ fn inside(rng: &mut Rng, block: Pair) -> u32 {
 
 /// One of the blocks that are live by the table, damaged or not: the slot of its start has its order, and its start is
 /// a multiple of its size.
-fn live_block(rng: &mut Rng, table: &[u8]) -> Option<Pair> {
+fn live_block(rng: &mut Rng, table: &[u8]) -> Option<Block> {
     let mut blocks = Vec::new();
     for (slot, &entry) in (0..).zip(table).filter(|(_, &entry)| entry != 0) {
-        let order = u32::from(entry).min(WHOLE);
+        let order = order_of(entry).min(WHOLE);
         // below order 4 a slot has several starts
         let offset = (16 * slot + i64::from(rng.below(16))) >> order << order;
         if offset / 16 == slot {
-            blocks.push(Pair { start: i64::from(BASE) + offset, order });
+            blocks.push(Block { start: i64::from(BASE) + offset, order });
         }
     }
     (!blocks.is_empty()).then(|| rng.pick(&blocks))

@@ -58,6 +58,7 @@ fn numbers_are_alike() {
         ("FREE_SLOT", Refusal::FreeSlot.number() as usize),
         ("TOO_MANY_RECORDS", Refusal::TooManyRecords.number() as usize),
         ("OUTSIDE", Refusal::Outside.number() as usize),
+        ("LOCKED", Refusal::Locked.number() as usize),
     ];
     let lines: String = expected.iter().map(|(name, number)| format!("{name} {number}\n")).collect();
     assert_eq!(program("tests/c/numbers.c", "c", &[]), lines);
@@ -148,7 +149,7 @@ mod library {
 
     #[test]
     fn unknown_operations_are_refused_by_the_writer() {
-        for operation in [0, 9, 128, 255] {
+        for operation in [0, 11, 128, 255] {
             let mut out = [0xA5; 16];
             let record = FlatRecord { operation, d: 99, ..FlatRecord::default() };
             assert_eq!(write_flat(&mut out, record), Answer { number: 5, value: 0 });

@@ -1,9 +1,10 @@
 //! The refusals of each call, in judging order: the lists in the header and in the manual are those of the ledger. Also
-//! the manual's examples of a missing home.
+//! the manual's examples of a missing home and of a lock.
 
 use std::collections::BTreeMap;
 use tulivombe_tests::call::Call;
 use tulivombe_tests::ledger::{can_refuse, can_refuse_records, Ledger};
+use tulivombe_tests::subject::Answer;
 use tulivombe_tests::vectors::{root, text};
 
 /// Lists of numbers by the call's name.
@@ -58,22 +59,60 @@ fn the_manuals_lists_of_records() {
     assert_eq!(rows(1), can_refuse_records());
 }
 
+/// A call of an example, in words and numbers.
+fn call(question: &str) -> Call {
+    let words: Vec<&str> = question.split_whitespace().collect();
+    let numbers: Vec<i64> = words[1..].iter().map(|word| word.parse().expect("a number")).collect();
+    let word = |k: usize| numbers[k] as u32;
+    let byte = |k: usize| numbers[k] as u8;
+    match words[0] {
+        "give" => Call::Give { p: word(0) },
+        "step" => Call::Step { p: word(0), i: word(1) },
+        "write" => Call::Write { p: word(0), w: byte(1), v: word(2) },
+        "left" => Call::Left { p: word(0) },
+        "copy" => Call::Copy { p: word(0), q: word(1), n: word(2) },
+        "fill" => Call::Fill { p: word(0), v: byte(1), n: word(2) },
+        "lock" => Call::Lock { p: word(0) },
+        "unlock" => Call::Unlock { p: word(0) },
+        other => panic!("another call: {other}"),
+    }
+}
+
+/// The manual's examples under a heading: calls, each with what it says of the answer.
+fn examples(heading: &str) -> Vec<(Call, Answer)> {
+    let manual = manual();
+    let (_, after) = manual.split_once(&format!("\n## {heading}\n")).expect("the manual has the heading");
+    let lines = after.lines().take_while(|line| !line.starts_with("## ")).filter(|line| line.starts_with("    "));
+    let example = |line: &str| match (line.split_once(" gives "), line.split_once(" is refused ")) {
+        (Some((question, value)), None) => (call(question), Answer { number: 0, value: numbers(value)[0] }),
+        (None, Some((question, number))) => (call(question), Answer { number: numbers(number)[0], value: 0 }),
+        _ => panic!("no example: {line}"),
+    };
+    lines.map(example).collect()
+}
+
 /// The examples of 22 and 27 speak of an arena of 64 bytes that is all free.
 #[test]
 fn the_manuals_examples_of_missing() {
     let mut met = BTreeMap::new();
-    for line in manual().lines().filter(|line| line.starts_with("    ")) {
-        let Some((question, answer)) = line.split_once(" is refused ") else { continue };
-        let number = numbers(answer)[0];
-        let call = match question.split_whitespace().collect::<Vec<_>>()[..] {
-            ["left", p] => Call::Left { p: p.parse().expect("a pointer") },
-            ["step", p, i] => Call::Step { p: p.parse().expect("a pointer"), i: i.parse().expect("a step on") },
-            _ => panic!("another call: {line}"),
-        };
-        if [22, 27].contains(&number) {
-            assert_eq!(Ledger::new(6).feed(call).number, number, "{line}");
-            *met.entry((call.name(), number)).or_default() += 1;
-        }
+    for (call, answer) in examples("Pointers").into_iter().filter(|(_, answer)| [22, 27].contains(&answer.number)) {
+        assert_eq!(Ledger::new(6).feed(call), answer, "{call:?}");
+        *met.entry((call.name(), answer.number)).or_default() += 1;
     }
     assert_eq!(met, BTreeMap::from([(("left", 22), 2), (("left", 27), 2), (("step", 22), 1), (("step", 27), 2)]));
+}
+
+/// Those of locks are made one after the other on two blocks.
+#[test]
+fn the_manuals_examples_of_locks() {
+    let mut ledger = Ledger::new(6);
+    for (n, value) in [(32, 65_536), (16, 65_568)] {
+        assert_eq!(ledger.feed(Call::Get { n }), Answer { number: 0, value });
+    }
+    let examples = examples("Locked blocks");
+    for &(call, answer) in &examples {
+        assert_eq!(ledger.feed(call), answer, "{call:?}");
+    }
+    let refused = examples.iter().filter(|(_, answer)| answer.number == 28).map(|(call, _)| call.name());
+    assert_eq!(refused.collect::<Vec<_>>(), ["write", "fill", "copy", "give"]);
 }

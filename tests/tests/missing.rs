@@ -62,6 +62,8 @@ impl Heap {
             Call::Left { p },
             Call::Copy { p, q: p, n: 1 },
             Call::Fill { p, v: 9, n: 0 },
+            Call::Lock { p },
+            Call::Unlock { p },
         ];
         calls.into_iter().for_each(|call| assert_eq!(self.made::<S>(call), number, "{what}: {call:?}"));
         let checked = Answer { number, value: u32::from(number == 0) };
@@ -241,7 +243,8 @@ fn random_calls_have_pointers_of_every_kind() {
     let m = 12;
     let mut ledger = Ledger::new(m);
     let p = ledger.feed(Call::Get { n: 20 }).value;
-    ledger.feed(Call::Get { n: 16 });
+    // half the arena is taken, so that a pair of any two kinds is drawn by chance
+    (0..30).for_each(|_| assert_eq!(ledger.feed(Call::Get { n: 64 }).number, 0));
     ledger.feed(Call::Give { p });
     let table = ledger.table();
     for _ in 0..100_000 * times() {

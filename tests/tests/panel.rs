@@ -7,19 +7,21 @@ use tulivombe_tests::subject::{Caller, Plain, Ran, Subject};
 
 const SIZE: usize = 256;
 
-/// A take for an arena of 256 bytes whose records use all eight operations, most of them accepted.
+/// A take for an arena of 256 bytes whose records use all ten operations, most of them accepted.
 fn take(records: usize) -> Vec<u8> {
     let mut file = vec![1, 8];
     for k in 0..records as u8 {
-        let (d, n) = (k / 8 % 8, u32::from(k));
-        let record = match k % 8 {
+        let (d, n) = (k / 10 % 8, u32::from(k));
+        let record = match k % 10 {
             0 => Record::Get { d, n: 1 + n % 32 },
             1 => Record::Fill { d: 8, a: d, v: k, n: 9 },
             2 => Record::Step { d: 9, a: d, i: n % 20 },
             3 => Record::Write { a: 9, w: 2, v: 257 * n },
-            4 => Record::Read { d: 10, a: d, w: 4 },
-            5 => Record::Left { d: 11, a: 9 },
-            6 => Record::Copy { d: 12, a: 0, b: d, n },
+            4 => Record::Lock { a: d },
+            5 => Record::Read { d: 10, a: d, w: 4 },
+            6 => Record::Left { d: 11, a: 9 },
+            7 => Record::Copy { d: 12, a: 0, b: d, n },
+            8 => Record::Unlock { a: d },
             _ => Record::Give { a: d / 2 },
         };
         let mut bytes = [0; 9];

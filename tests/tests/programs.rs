@@ -70,6 +70,8 @@ fn spelled(record: Record) -> String {
         Record::Left { d, a } => format!("left r{d} r{a}"),
         Record::Copy { d, a, b, n } => format!("copy r{d} r{a} r{b} {n}"),
         Record::Fill { d, a, v, n } => format!("fill r{d} r{a} {v} {n}"),
+        Record::Lock { a } => format!("lock r{a}"),
+        Record::Unlock { a } => format!("unlock r{a}"),
     }
 }
 

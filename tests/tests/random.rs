@@ -61,15 +61,19 @@ fn plain_histories() {
 #[test]
 fn plain_damage_scan() {
     let rng = &mut Rng::seeded("plain_damage_scan");
-    let mut damaged = 0;
+    let (mut damaged, mut by_locks, mut locked) = (0, 0, 0);
     for _ in 0..20_000 * times() {
         let m = rng.within(5, 9);
         let table = any_table(rng, m);
         let expected = ledger::damaged(&table, m);
         assert_eq!(heap::damaged(&table, m), expected, "m = {m}, {table:?}");
+        let unlocked: Vec<u8> = table.iter().map(|&entry| entry & !heap::LOCK).collect();
         damaged += u32::from(expected);
+        by_locks += u32::from(expected && !ledger::damaged(&unlocked, m));
+        locked += u32::from(!expected && table != unlocked);
     }
-    println!("plain_damage_scan: {damaged} damaged tables");
+    println!("plain_damage_scan: {damaged} damaged tables, {by_locks} by locks alone; {locked} good ones with locks");
+    assert!(by_locks > 100 && locked > 100, "plain_damage_scan: too few tables with locks");
 }
 
 #[test]

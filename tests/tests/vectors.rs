@@ -18,7 +18,7 @@ fn all<S: Subject>() {
         lines[form] += text.hold::<S>();
         lines
     });
-    assert_eq!(lines, [1586, 5049, 8301, 423, 105]);
+    assert_eq!(lines, [2209, 5049, 11432, 490, 153]);
 }
 
 #[test]
@@ -34,7 +34,7 @@ fn literal() {
 #[test]
 fn plain_takerun() {
     let takes: Vec<_> = stored().iter().flat_map(|text| text.takes()).collect();
-    assert_eq!(takes.len(), 71);
+    assert_eq!(takes.len(), 82);
     for (take, printed) in takes {
         assert_eq!(runner::takerun(&bytes(&take)), printed, "{}", take.display());
     }

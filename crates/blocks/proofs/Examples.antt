@@ -4,9 +4,9 @@ use mathlib.Core.Bool.{Bool, true, false}
 use mathlib.Core.List.{List, [], _∷_}
 use mathlib.Core.Path.{_≡_, refl}
 use lib.IntN.{pos, negsuc}
-use Rattle.blocks.specs.Blocks.{Block, floor}
-use Rattle.blocks.specs.Tables.{any, entryOrder, torn, bad, damagedBy, freeIn, referentIn}
-use Rattle.blocks.specs.Sets.{referentOf, entriesFrom, tableOf, blocksFrom, blocksOf}
+use Rattle.blocks.specs.Blocks.{floor}
+use Rattle.blocks.specs.Tables.{any, entryOrder, torn, bad, damagedBy, freeIn, lockedIn, referentIn}
+use Rattle.blocks.specs.Sets.{Pair, referentOf, lockedOf, entriesFrom, tableOf, pairsFrom, pairsOf}
 use Rattle.blocks.specs.Pointers.{sought, signed, exactSum}
 use Rattle.blocks.specs.Orders.{orderOf, neededOrder}
 use Rattle.blocks.specs.Placing.{allFree, rangeStart, freeRange, maximal, lowest, atOrder, fromOrder, placeIn}
@@ -40,20 +40,42 @@ too-high : damage (7 ∷ 7 ∷ 7 ∷ 7 ∷ []) ≡ true
 unfolding damage
 too-high = refl
 
-two : List Block
-two = record { start = 65584; order = 4 } ∷ record { start = 65536; order = 5 } ∷ []
+-- a locked block of one slot beside one that is not
+locked : damage (133 ∷ 133 ∷ 132 ∷ 4 ∷ []) ≡ false
+unfolding damage
+locked = refl
 
-table-of-two : tableOf 4 6 two ≡ 5 ∷ 5 ∷ 0 ∷ 4 ∷ []
-unfolding two tableOf entriesFrom referentOf
+-- a block one of whose slots is not locked
+half-locked : damage (133 ∷ 5 ∷ 0 ∷ 0 ∷ []) ≡ true
+unfolding damage
+half-locked = refl
+
+-- the bit alone, with an order below that of a slot, and with one above that of the arena
+no-orders : (damage (0 ∷ 128 ∷ 0 ∷ 0 ∷ []) ≡ true) × (damage (0 ∷ 131 ∷ 0 ∷ 0 ∷ []) ≡ true) × (damage (135 ∷ 135 ∷ 135 ∷ 135 ∷ []) ≡ true)
+unfolding damage
+no-orders = (refl, refl, refl)
+
+one : Pair
+one = record { block = record { start = 65584; order = 4 }; locked = true }
+
+wide : Pair
+wide = record { block = record { start = 65536; order = 5 }; locked = false }
+
+table-of-two : tableOf 4 6 (one ∷ wide ∷ []) ≡ 5 ∷ 5 ∷ 0 ∷ 132 ∷ []
+unfolding one wide tableOf entriesFrom referentOf lockedOf
 table-of-two = refl
 
-read-back : blocksOf 4 (5 ∷ 5 ∷ 0 ∷ 4 ∷ []) ≡ record { start = 65536; order = 5 } ∷ record { start = 65584; order = 4 } ∷ []
-unfolding blocksFrom
+read-back : pairsOf 4 (5 ∷ 5 ∷ 0 ∷ 132 ∷ []) ≡ wide ∷ one ∷ []
+unfolding one wide entryOrder pairsFrom
 read-back = refl
 
 in-block : referentIn 4 (5 ∷ 5 ∷ 0 ∷ 4 ∷ []) 65560 ≡ Found 65536 5
 unfolding entryOrder referentIn floor
 in-block = refl
+
+in-locked-block : (referentIn 4 (133 ∷ 133 ∷ 0 ∷ 4 ∷ []) 65560 ≡ Found 65536 5) × (lockedIn 4 (133 ∷ 133 ∷ 0 ∷ 4 ∷ []) 65560 ≡ true)
+unfolding entryOrder referentIn lockedIn floor
+in-locked-block = (refl, refl)
 
 in-free-slot : referentIn 4 (5 ∷ 5 ∷ 0 ∷ 4 ∷ []) 65568 ≡ Missing
 unfolding entryOrder referentIn floor

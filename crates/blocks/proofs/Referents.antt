@@ -65,11 +65,12 @@ entered t s q b e h = go (leb base q && ltb (slotOf t q) (length s)) refl h
     go true c k = some (getD s (slotOf t q) 0) refl k (leb-true base q (and-left _ _ c)) (ltb-true _ _ (and-right (leb base q) _ c))
     go false c k = let z : _≡_ {A = ℕ} 0 1 = cc in absurd (omega arith)
 
--- the block of order e at b is aligned and holds q; each of its slots has the entry of q's, and each of its addresses the same referent
+-- the block of order e at b is aligned and holds q; each of its slots has the entry of q's, which says e, and each of its addresses the same referent
 pub record ReferentBlock (t m : ℕ) (s : List ℕ) (q b e : ℕ) : Type 0 where
   pub aligned : Aligned t m (block b e)
   pub low : b ≤ q
   pub high : q < b + 2 ^ e
+  pub says : entryOrder (getD s (slotOf t q) 0) ≡ e
   pub entries : (i : ℕ) → b ≤ base + i * 2 ^ t → base + i * 2 ^ t < b + 2 ^ e → getD s i 0 ≡ getD s (slotOf t q) 0
   pub same : (r : ℕ) → b ≤ r → r < b + 2 ^ e → referentIn t s r ≡ Found b e
 
@@ -100,6 +101,7 @@ module _ (t m : ℕ) (s : List ℕ) (len : length s ≡ 2 ^ (m - t)) (good : dam
         aligned = aligned-of t m (block b e) (whole .low) (whole .high) slots;
         low = omega (arith, floor-le e (q - base));
         high = omega (arith, lt-floor e (q - base));
+        says = at-entry .says;
         entries = λ i lo hi. let z = in-slots (base + i * 2 ^ t) lo hi in
             subst (λ (x : ℕ). getD s x 0 ≡ entry) (slot-start t i) (whole .entries (slotOf t (base + i * 2 ^ t)) (z .low) (z .high));
         same = λ r lo hi. let z = in-slots r lo hi in

@@ -1,16 +1,16 @@
 -- Damaged and undamaged tables, slot by slot, for slots of 2 ^ t bytes: a table is damaged where one slot is bad, and a good slot's block is whole.
 use Prim.Native.Nat.{ℕ, zero, suc, _+_, _-_, _^_, _≤_, _<_}
-use mathlib.Core.Bool.{Bool, true, false, not, _&&_, _||_, true≢false}
+use mathlib.Core.Bool.{Bool, true, false, cond, not, _&&_, _||_, true≢false}
 use mathlib.Core.List.{List}
 use mathlib.Core.Logic.{⊎-elim}
 use mathlib.Core.Path.{_≡_, refl, sym, _∙_, ap, subst}
 use native.Mathlib.Nat.{not-suc-le-zero, eq-or-lt-of-le, le-of-suc-le-suc, add-sub-of-le, le-refl}
 use native.Mathlib.Omega.{arith}
-use borrow.Author.Tests.{le-leb, eq-eqb, ne-eqb, leb-true, eqb-true, not-false}
+use borrow.Author.Tests.{le-leb, lt-leb, eq-eqb, ne-eqb, leb-true, eqb-true, not-false}
 use lib.Dec.{eqb, leb}
 use lib.ListN.{length, getD}
 use Rattle.blocks.specs.Blocks.{floor}
-use Rattle.blocks.specs.Tables.{any, entryOrder, entryOf, torn, bad, damagedBy}
+use Rattle.blocks.specs.Tables.{any, lockBit, entryOrder, entryLocked, entryOf, torn, bad, damagedBy}
 use Rattle.common.proofs.Booleans.{and-left, and-right, or-right, or-false-left, or-false-right}
 use Rattle.blocks.proofs.Floors.{floor-same}
 
@@ -44,10 +44,29 @@ pub record Whole (t m : ℕ) (s : List ℕ) (i x e : ℕ) : Type 0 where
   pub high : e ≤ m
   pub entries : (k : ℕ) → floor (e - t) i ≤ k → k < floor (e - t) i + 2 ^ (e - t) → getD s k 0 ≡ x
 
--- the entry of a block says its order
-pub order-of-entry : (e : ℕ) → entryOrder (entryOf e) ≡ e
+-- the entry of a block says its order and its lock, the order being below the top bit
+pub order-of-entry : (e : ℕ) (l : Bool) → e < lockBit → entryOrder (entryOf e l) ≡ e
 unfolding entryOrder
-order-of-entry e = refl
+order-of-entry e true h = rw (le-leb lockBit (lockBit + e) (omega arith)) (omega arith)
+order-of-entry e false h = rw (lt-leb lockBit e h)
+
+pub lock-of-entry : (e : ℕ) (l : Bool) → e < lockBit → entryLocked (entryOf e l) ≡ l
+lock-of-entry e true h = le-leb lockBit (lockBit + e) (omega arith)
+lock-of-entry e false h = lt-leb lockBit e h
+
+-- and an entry is that of the order and the lock that it says
+pub entry-of-both : (x : ℕ) → entryOf (entryOrder x) (entryLocked x) ≡ x
+unfolding entryOrder
+entry-of-both x = go (leb lockBit x) refl
+  where
+    go : (b : Bool) → leb lockBit x ≡ b → cond b (lockBit + cond b (x - lockBit) x) (cond b (x - lockBit) x) ≡ x
+    go true h = let l = leb-true lockBit x h in omega arith
+    go false h = refl
+
+-- the entry of a block is not that of a free slot
+pub entry-taken : (e : ℕ) (l : Bool) → (e ≡ 0 → ⊥) → entryOf e l ≡ 0 → ⊥
+entry-taken e true n z = omega arith
+entry-taken e false n z = n z
 
 -- a free slot says no order
 pub free-order : entryOrder 0 ≡ 0

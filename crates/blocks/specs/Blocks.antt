@@ -36,7 +36,11 @@ abbrev pub missing : Referent → Bool
 missing Missing = true
 missing (Found s e) = false
 
--- the order of the block, 0 where there is none
+-- the start and the order of the block, 0 where there is none
+abbrev pub startIn : Referent → ℕ
+startIn Missing = 0
+startIn (Found s e) = s
+
 abbrev pub orderIn : Referent → ℕ
 orderIn Missing = 0
 orderIn (Found s e) = e

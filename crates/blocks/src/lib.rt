@@ -7,7 +7,7 @@ ghost use Prim.Native.Nat.{_+_, _-_, _^_, _≤_, _<_};
 ghost use Rattle.blocks.specs.Blocks.{floor, holds};
 ghost use Rattle.blocks.specs.Orders.{orderOf, neededOrder};
 ghost use Rattle.blocks.specs.Inner.{fromZero};
-ghost use Rattle.blocks.specs.Tables.{entryOrder, entryOf, damagedBy, freeIn, referentIn};
+ghost use Rattle.blocks.specs.Tables.{entryOrder, entryOf, damagedBy, freeIn, lockedIn, referentIn};
 ghost use Rattle.blocks.specs.Placing.{placeIn};
 ghost use Rattle.blocks.specs.Pointers.{sought, outsideAt, marked, address, exactSum, wrappedSum, checkBits, within};
 use common::wide;
@@ -21,6 +21,9 @@ mod search;
 pub const BASE: u32 = 65536;
 
 pub const MARK: u32 = 2147483648;
+
+// The top bit of an entry, which says that the block is locked.
+const LOCK: u32 = 128;
 
 // The smallest and the largest order of an arena, and the length of the smallest.
 pub const SMALLEST_ARENA: u32 = 5;
@@ -73,14 +76,17 @@ pub fn size_of(e: u32) -> u32
 pub fn order_in(x: u8) -> u32
     ensures { λ r. ⌜ r ≡ entryOrder x ⌝ }
 {
-    wide(x)
+    wide(x) % LOCK
 }
 
 // The entry of a block's slots.
-pub fn entry_of(e: u32) -> u8
+pub fn entry_of(e: u32, locked: bool) -> u8
     requires { ⌜ e ≤ 16 ⌝ }
-    ensures { λ r. ⌜ r ≡ entryOf e ⌝ }
+    ensures { λ r. ⌜ r ≡ entryOf e locked ⌝ }
 {
+    if locked {
+        return ((LOCK + e) % 256) as u8;
+    }
     (e % 256) as u8
 }
 
@@ -177,6 +183,21 @@ pub fn referent_in(table: &[u8], t: u32, m: u32, q: u32) -> Referent
     let size = size_of(e);
     let start = BASE + x / size * size;
     Referent::Found(start, e)
+}
+
+// Whether the block that holds the address q is locked. The tests are those of `referent_in`, so that the compiler makes them once.
+pub fn is_locked(table: &[u8], t: u32, q: u32) -> bool
+    requires { ⌜ t ≤ 16 ⌝ }
+    ensures { λ b. ⌜ b ≡ lockedIn t (now (table .entry)) q ⌝ }
+{
+    if q < BASE {
+        return false;
+    }
+    let i = ((q - BASE) >> t) as usize;
+    if table.len() <= i {
+        return false;
+    }
+    LOCK <= wide(table[i])
 }
 
 // Whether the address q lies outside the arena of this table. The tests are those by which `referent_in` finds no slot, so that the compiler makes them

@@ -104,7 +104,7 @@ fn row_damaged(row: &[u8], t: u32) -> bool
     by_slots(row, t, t + ROW_LEVELS)
 }
 
-// Whether the slots of a row are all free, or all of blocks of one order that lie in it.
+// Whether the slots of a row have one entry, that of free slots or of blocks that lie in it.
 fn even(row: &[u8], t: u32) -> bool
     requires { ⌜ (t ≤ 16) × (length (now row) ≡ 16) ⌝ }
     ensures { λ r. ⌜ r ≡ inRow t (getD (now (row .entry)) 0 0) && allFree (hasEntry (now (row .entry)) (getD (now (row .entry)) 0 0)) 0 16 ⌝ }

@@ -1,42 +1,32 @@
 -- Flat records and takes' records, each from the other.
 use Prim.Native.Nat.{ℕ, _≤_, _<_}
-use mathlib.Core.Path.{_≡_, sym, _∙_, ap}
+use mathlib.Core.Path.{_≡_, refl, sym, _∙_, ap}
 use mathlib.Core.List.{List}
 use mathlib.Core.Option.{none}
-use borrow.Author.Tests.{le-leb, lt-leb, ne-eqb}
+use borrow.Author.Tests.{le-leb, lt-leb}
 use Rattle.heap.specs.OperationNumbers.{lastOperation}
 use Rattle.takes.specs.Reading.{Given, given}
 use Rattle.takes.specs.Writing.{WriteOutcome, writeRecord}
 use Rattle.takes.specs.declared.Record.{Record}
-use Rattle.takes.specs.declared.Record.the-variants.{Fill}
+use Rattle.takes.specs.declared.Record.the-variants.{Unlock}
 use Rattle.takes.specs.declared.Reading.{Reading}
 use Rattle.takes.specs.declared.Reading.the-variants.{Found, Refused}
+use Rattle.common.proofs.Arms.{NoneOf, no-arm}
 use Rattle.cabi.specs.Flat.{flat, flatFound, flatReading, recordAs, recordFromFlat, unknown, writeFlat}
 use Rattle.cabi.specs.declared.FlatRecord.{FlatRecord}
 
 pub flat-is : {r s : Record} → r ≡ s → flat s ≡ flat r
 flat-is e = sym (ap flat e)
 
--- the operation is none of 1 to 7
-abbrev Other : ℕ → Type 0
-Other op = (((((((Unit {0} × (op ≡ 1 → ⊥)) × (op ≡ 2 → ⊥)) × (op ≡ 3 → ⊥)) × (op ≡ 4 → ⊥)) × (op ≡ 5 → ⊥)) × (op ≡ 6 → ⊥)) × (op ≡ 7 → ⊥))
-
 module _ (f : FlatRecord) where
   pub record-is : (k : ℕ) → f .operation ≡ k → recordAs k f ≡ recordFromFlat f
   record-is k e = sym (ap (λ (n : ℕ). recordAs n f) e)
 
-  pub fill-is : Other (f .operation) → Fill (f .d) (f .a) (f .byte) (f .word) ≡ recordFromFlat f
-  fill-is n =
-      let op = f .operation in
-      rw (
-        ne-eqb op 1 (n .0 .0 .0 .0 .0 .0 .1),
-        ne-eqb op 2 (n .0 .0 .0 .0 .0 .1),
-        ne-eqb op 3 (n .0 .0 .0 .0 .1),
-        ne-eqb op 4 (n .0 .0 .0 .1),
-        ne-eqb op 5 (n .0 .0 .1),
-        ne-eqb op 6 (n .0 .1),
-        ne-eqb op 7 (n .1),
-      )
+  -- no arm before has the operation
+  pub unlock-is : NoneOf (f .operation) 9 → Unlock (f .a) ≡ recordFromFlat f
+  unlock-is n =
+      let t = no-arm (f .operation) 9 n in
+      rw (t 1 refl, t 2 refl, t 3 refl, t 4 refl, t 5 refl, t 6 refl, t 7 refl, t 8 refl, t 9 refl)
 
 module _ {g : Given} (reading : Reading) where
   pub found-is : (r : Record) (next : ℕ) (f : FlatRecord) → given reading ≡ g → reading ≡ Found r next → f ≡ flat r

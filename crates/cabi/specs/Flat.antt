@@ -9,7 +9,7 @@ use Rattle.heap.specs.declared.Answer.{Answer}
 use Rattle.takes.specs.Reading.{Given}
 use Rattle.takes.specs.Writing.{WriteOutcome, writeRecord}
 use Rattle.takes.specs.declared.Record.{Record}
-use Rattle.takes.specs.declared.Record.the-variants.{Get, Give, Step, Read, Write, Left, Copy, Fill}
+use Rattle.takes.specs.declared.Record.the-variants.{Get, Give, Step, Read, Write, Left, Copy, Fill, Lock, Unlock}
 use Rattle.cabi.specs.declared.FlatRecord.{FlatRecord}
 use Rattle.cabi.specs.declared.FlatReading.{FlatReading}
 
@@ -26,6 +26,8 @@ flat (Write a w v) = flatOf 5 0 a 0 w v
 flat (Left d a) = flatOf 6 d a 0 0 0
 flat (Copy d a b n) = flatOf 7 d a b 0 n
 flat (Fill d a v n) = flatOf 8 d a 0 v n
+flat (Lock a) = flatOf 9 0 a 0 0 0
+flat (Unlock a) = flatOf 10 0 a 0 0 0
 
 -- no record is all 0
 abbrev pub flatFound : Option Record → FlatRecord
@@ -44,7 +46,9 @@ recordAs op f =
     (cond (eqb op 4) (Read (f .d) (f .a) (f .byte))
     (cond (eqb op 5) (Write (f .a) (f .byte) (f .word))
     (cond (eqb op 6) (Left (f .d) (f .a))
-    (cond (eqb op 7) (Copy (f .d) (f .a) (f .b) (f .word)) (Fill (f .d) (f .a) (f .byte) (f .word))))))))
+    (cond (eqb op 7) (Copy (f .d) (f .a) (f .b) (f .word))
+    (cond (eqb op 8) (Fill (f .d) (f .a) (f .byte) (f .word))
+    (cond (eqb op 9) (Lock (f .a)) (Unlock (f .a))))))))))
 
 abbrev pub recordFromFlat : FlatRecord → Record
 recordFromFlat f = recordAs (f .operation) f

@@ -9,10 +9,11 @@ use takes::Reading;
 use takes::Record;
 ghost use mathlib.Core.Path.{_≡_};
 ghost use Prim.Native.Nat.{_≤_};
+ghost use mathlib.Core.Bool.{true, false};
 ghost use lib.ListN.{length};
 ghost use Rattle.heap.specs.Heaps.{heapOf, outcome, heapCall, heapFresh, heapCheck};
 ghost use Rattle.heap.specs.Registers.{putTo, putIn};
-ghost use Rattle.heap.specs.declared.Call.the-variants.{Get, Give, Step, Read, Write, Left, Copy, Fill};
+ghost use Rattle.heap.specs.declared.Call.the-variants.{Get, Give, Step, Read, Write, Left, Copy, Fill, SetLock};
 ghost use Rattle.history.specs.Replaying.{replayed, replayOf};
 ghost use Rattle.runner.specs.TakeRuns.{screenful, runOf, panelOf, ranTo};
 ghost use Rattle.takes.specs.Files.{recordsOf};
@@ -109,6 +110,20 @@ pub extern "C" fn tulivombe_fill(arena: &mut [u8], table: &[u8], p: u32, v: u8, 
     ensures { λ r. ⌜ outcome r (now (arena .exit)) (now (table .entry)) ≡ heapCall (Fill p v n) (heapOf (now (arena .entry)) (now (table .entry))) ⌝ }
 {
     heap::fill(arena, table, p, v, n)
+}
+
+#[no_mangle]
+pub extern "C" fn tulivombe_lock(arena: &[u8], table: &mut [u8], p: u32) -> Answer
+    ensures { λ r. ⌜ outcome r (now (arena .entry)) (now (table .exit)) ≡ heapCall (SetLock p true) (heapOf (now (arena .entry)) (now (table .entry))) ⌝ }
+{
+    heap::lock(arena, table, p)
+}
+
+#[no_mangle]
+pub extern "C" fn tulivombe_unlock(arena: &[u8], table: &mut [u8], p: u32) -> Answer
+    ensures { λ r. ⌜ outcome r (now (arena .entry)) (now (table .exit)) ≡ heapCall (SetLock p false) (heapOf (now (arena .entry)) (now (table .entry))) ⌝ }
+{
+    heap::unlock(arena, table, p)
 }
 
 #[no_mangle]
@@ -218,6 +233,8 @@ fn flattened(r: Record) -> FlatRecord
         Record::Left(d, a) => flat_record(6, d, a, 0, 0, 0),
         Record::Copy(d, a, b, n) => flat_record(7, d, a, b, 0, n),
         Record::Fill(d, a, v, n) => flat_record(8, d, a, 0, v, n),
+        Record::Lock(a) => flat_record(9, 0, a, 0, 0, 0),
+        Record::Unlock(a) => flat_record(10, 0, a, 0, 0, 0),
     }
 }
 
@@ -251,7 +268,7 @@ pub extern "C" fn tulivombe_write_head(out: &mut [u8], m: u32) -> Answer
     }
 }
 
-// The record of an operation of the table, a fill for any other number.
+// The record of an operation of the table, an unlock for any other number.
 fn structured(f: FlatRecord) -> Record
     ensures { λ r. ⌜ r ≡ recordFromFlat f ⌝ }
 {
@@ -264,7 +281,9 @@ fn structured(f: FlatRecord) -> Record
         5 => Record::Write(f.a, f.byte, f.word),
         6 => Record::Left(f.d, f.a),
         7 => Record::Copy(f.d, f.a, f.b, f.word),
-        _ => Record::Fill(f.d, f.a, f.byte, f.word),
+        8 => Record::Fill(f.d, f.a, f.byte, f.word),
+        9 => Record::Lock(f.a),
+        _ => Record::Unlock(f.a),
     }
 }
 

@@ -136,7 +136,7 @@ fn answer_of(arena: &mut [u8], table: &mut [u8], l: Line) -> Answer {
     let b = l.b;
     let c = l.c;
     match word {
-        // fr, ge, gi, st, re, wr, le, co, fi
+        // fr, ge, gi, st, re, wr, le, co, fi, lo, un
         0x6672 => heap::fresh(arena, table),
         0x6765 => heap::get(arena, table, a),
         0x6769 => heap::give(arena, table, a),
@@ -146,6 +146,8 @@ fn answer_of(arena: &mut [u8], table: &mut [u8], l: Line) -> Answer {
         0x6c65 => heap::left(arena, table, a),
         0x636f => heap::copy(arena, table, a, b, c),
         0x6669 => heap::fill(arena, table, a, low(b), c),
+        0x6c6f => heap::lock(arena, table, a),
+        0x756e => heap::unlock(arena, table, a),
         _ => heap::check(arena, table, a, b),
     }
 }

@@ -1,3 +1,4 @@
+pub mod Arms
 -- What the proofs of several functions use.
 pub mod Booleans
 pub mod Refusals

@@ -13,6 +13,7 @@ use lib.Pow.{pow-pos, pow-mono}
 use Rattle.common.specs.Refusals.{Refusal, _when_, first}
 use Rattle.common.specs.Bytes.{bigEndian, bytesOf, over, copied}
 use Rattle.blocks.specs.Blocks.{base, floor, Aligned, leftIn}
+use Rattle.blocks.specs.Tables.{lockedIn}
 use Rattle.blocks.specs.Pointers.{markBit, marked, address, sought}
 use Rattle.blocks.specs.Inner.{fromZero}
 use Rattle.blocks.specs.declared.Referent.{Referent}
@@ -20,7 +21,7 @@ use Rattle.blocks.specs.declared.Referent.the-variants.{Found}
 use Rattle.blocks.proofs.Floors.{pow-split, floor-same}
 use Rattle.blocks.proofs.Referents.{referent-block, referent-from-zero}
 use Rattle.heap.specs.Views.{View, referentOfPointer, leftFrom}
-use Rattle.heap.specs.Rules.{badWidth, outsideArena, dead, homeRules, argumentRules, stateRules}
+use Rattle.heap.specs.Rules.{badWidth, outsideArena, dead, homeRules, bothHomes, lockRules, argumentRules, stateRules}
 use Rattle.heap.specs.Effects.{value, stored}
 use Rattle.heap.specs.Heaps.{heapOf, heapView, entered, heapStep, outcome}
 use Rattle.heap.specs.Inner.{Sound, Ready, Holding, located, numberIn}
@@ -156,18 +157,26 @@ module _ {t m : ℕ} {c : Call} {a tab : List ℕ} {p s e : ℕ} (d : Led t m c 
   pub left-is : {l : ℕ} → l ≡ leftIn (Found s e) p → l ≡ leftFrom seen p
   left-is q = q ∙ ap (λ (h : Referent). leftIn h p) (sym (located-inside seen p (d .found) .1))
 
-  -- where c needs k bytes from p on
-  module _ (k : ℕ) (q : stateRules c seen ≡ homeRules seen p ++ (25 when ltb (leftFrom seen p) k ∷ [])) where
-    own-first : (b : Bool) → ltb (leftIn (Found s e) p) k ≡ b → first (stateRules c seen) ≡ cond b 25 0
+  -- where c needs k bytes from p on, and is judged by `last` after that
+  module _ (k : ℕ) (last : List Refusal) (q : stateRules c seen ≡ homeRules seen p ++ (25 when ltb (leftFrom seen p) k ∷ last)) where
+    own-first : (b : Bool) → ltb (leftIn (Found s e) p) k ≡ b → first (stateRules c seen) ≡ cond b 25 (first last)
     own-first b h = home-first (d .ready) p _ q (d .found) ∙ rw (located-inside seen p (d .found) .1, h)
 
     pub short-refused : leftIn (Found s e) p < k → {r : Answer} → r ≡ answer 25 0 → outcome r a tab ≡ heapStep t m c (heapOf a tab)
     short-refused h y =
         rw y (step-refused t m c a tab (d .ready) 25 (sym (own-first true (lt-ltb (leftIn (Found s e) p) k h))) (λ x. omega arith))
 
-    pub long-accepted : k ≤ leftIn (Found s e) p
+    pub long-first : k ≤ leftIn (Found s e) p → first (stateRules c seen) ≡ first last
+    long-first h = own-first false (le-ltb (leftIn (Found s e) p) k h)
+
+  -- where only the lock is left to judge
+  module _ (q : first (stateRules c seen) ≡ first (lockRules seen p)) where
+    pub locked-refused : lockedIn t tab p ≡ true → {r : Answer} → r ≡ answer 28 0 → outcome r a tab ≡ heapStep t m c (heapOf a tab)
+    locked-refused h y = rw y (step-refused t m c a tab (d .ready) 28 (sym (q ∙ rw h)) (λ x. omega arith))
+
+    pub unlocked-accepted : lockedIn t tab p ≡ false
         → outcome (answer 0 (value c seen a)) (stored c seen a) (entered (changeOf c) seen tab) ≡ heapStep t m c (heapOf a tab)
-    long-accepted h = step-accepted t m c a tab (d .ready) (own-first false (le-ltb (leftIn (Found s e) p) k h))
+    unlocked-accepted h = step-accepted t m c a tab (d .ready) (q ∙ rw h)
 
 -- The outcomes: l is what is left from p, `at` its place in the arena, and r the answer.
 module _ {t m p s e : ℕ} {a tab : List ℕ} where
@@ -180,18 +189,22 @@ module _ {t m p s e : ℕ} {a tab : List ℕ} where
     pub read-done : Led t m (Read p w) a tab p s e → {x : ℕ} → x ≡ bigEndian a at w → {r : Answer} → r ≡ answer 0 x
         → outcome r a tab ≡ heapStep t m (Read p w) (heapOf a tab)
     unfolding stateRules value stored entered
-    read-done d x y = rw (y, x, o) (long-accepted d w refl fits)
+    read-done d x y = rw (y, x, o) (step-accepted t m (Read p w) a tab (d .ready) (long-first d w [] refl fits))
 
-    pub write-done : {v : ℕ} → Led t m (Write p w v) a tab p s e → {b : List ℕ} → b ≡ over a at (bytesOf w v) → {r : Answer} → r ≡ answer 0 0
-        → outcome r b tab ≡ heapStep t m (Write p w v) (heapOf a tab)
+    pub write-done : {v : ℕ} → Led t m (Write p w v) a tab p s e → lockedIn t tab p ≡ false → {b : List ℕ} → b ≡ over a at (bytesOf w v)
+        → {r : Answer} → r ≡ answer 0 0 → outcome r b tab ≡ heapStep t m (Write p w v) (heapOf a tab)
     unfolding stateRules value stored entered
-    write-done d x y = rw (y, x, o) (long-accepted d w refl fits)
+    write-done d n x y = rw (y, x, o) (unlocked-accepted d (long-first d w _ refl fits) n)
 
-  pub fill-done : {v n l k at : ℕ} → Led t m (Fill p v n) a tab p s e → l ≡ leftIn (Found s e) p → k ≡ min n l → at ≡ p - base
+  pub fill-last : {v n : ℕ} → Led t m (Fill p v n) a tab p s e
+      → let w = heapView t m (heapOf a tab) in first (stateRules (Fill p v n) w) ≡ first (lockRules w p)
+  unfolding stateRules
+  fill-last d = home-first (d .ready) p _ refl (d .found)
+
+  pub fill-done : {v n l k at : ℕ} → Led t m (Fill p v n) a tab p s e → lockedIn t tab p ≡ false → l ≡ leftIn (Found s e) p → k ≡ min n l → at ≡ p - base
       → {b : List ℕ} → b ≡ over a at (replicate k v) → {r : Answer} → r ≡ answer 0 k → outcome r b tab ≡ heapStep t m (Fill p v n) (heapOf a tab)
-  unfolding stateRules value stored entered
-  fill-done {v = v} {n = n} d q u o x y =
-      rw (y, x, o, u, left-is d q) (step-accepted t m (Fill p v n) a tab (d .ready) (home-first (d .ready) p [] refl (d .found)))
+  unfolding value stored entered
+  fill-done d f q u o x y = rw (y, x, o, u, left-is d q) (unlocked-accepted d (fill-last d) f)
 
 -- ---- a copy, from y to p
 
@@ -199,9 +212,8 @@ module _ {t m p y n : ℕ} {a tab : List ℕ} (z : Ready t m (Copy p y n) a tab)
   abbrev x : View
   x = heapView t m (heapOf a tab)
 
-  -- its number is the greater of the pointers'
-  both-first : first (stateRules (Copy p y n) x) ≡ max (first (homeRules x p)) (first (homeRules x y))
-  unfolding stateRules
+  -- the number of its pointers is the greater of theirs
+  both-first : first (bothHomes x p y) ≡ max (first (homeRules x p)) (first (homeRules x y))
   both-first = go (outsideArena x p) (outsideArena x y) (dead x p) (dead x y)
     where
       go : (a b c d : Bool) → first (27 when (a || b) ∷ 22 when (c || d) ∷ []) ≡ max (first (27 when a ∷ 22 when c ∷ [])) (first (27 when b ∷ 22 when d ∷ []))
@@ -215,22 +227,30 @@ module _ {t m p y n : ℕ} {a tab : List ℕ} (z : Ready t m (Copy p y n) a tab)
       go false false false true = refl
       go false false false false = refl
 
-  numbers-first : first (stateRules (Copy p y n) x) ≡ max (numberIn (located x p)) (numberIn (located x y))
+  numbers-first : first (bothHomes x p y) ≡ max (numberIn (located x p)) (numberIn (located x y))
   numbers-first = both-first ∙ ap₂ max (sym (located-number x p)) (sym (located-number x y))
 
   -- so it is refused where the pointer v, one of them, is
   pub both-refused : {k : ℕ} → k ≡ max (numberIn (located x p)) (numberIn (located x y)) → (v i : ℕ) → located x v ≡ Refused i
       → numberIn (located x v) ≤ max (numberIn (located x p)) (numberIn (located x y))
       → {r : Answer} → r ≡ answer k 0 → outcome r a tab ≡ heapStep t m (Copy p y n) (heapOf a tab)
+  unfolding stateRules
   both-refused {k} q v i l u e =
       let (_, o) = located-refused x v i l in
-      rw e (step-refused t m (Copy p y n) a tab z k (q ∙ sym numbers-first) (λ r. o (omega (arith, ap numberIn l))))
+      let some : k ≡ 0 → ⊥ = λ r. o (omega (arith, ap numberIn l)) in
+      let number = q ∙ sym numbers-first in
+      rw e (step-refused t m (Copy p y n) a tab z k (number ∙ sym (first-stays (bothHomes x p y) (lockRules x p) (λ r. some (number ∙ r)))) some)
+
+  -- and where both lead to a block only the lock is left to judge
+  pub copy-last : {s e s2 e2 : ℕ} → located x p ≡ Inside s e → located x y ≡ Inside s2 e2 → first (stateRules (Copy p y n) x) ≡ first (lockRules x p)
+  unfolding stateRules
+  copy-last d f = first-goes-on (bothHomes x p y) (lockRules x p) refl (numbers-first ∙ rw (d, f))
 
 -- and else it stores as many bytes as both referents have left
 pub copy-done : {t m p y n : ℕ} {a tab : List ℕ} {s e s2 e2 k at from : ℕ} → Led t m (Copy p y n) a tab p s e → Led t m (Copy p y n) a tab y s2 e2
-    → k ≡ min n (min (leftIn (Found s e) p) (leftIn (Found s2 e2) y)) → at ≡ p - base → from ≡ y - base
+    → lockedIn t tab p ≡ false → k ≡ min n (min (leftIn (Found s e) p) (leftIn (Found s2 e2) y)) → at ≡ p - base → from ≡ y - base
     → {b : List ℕ} → b ≡ copied a at a from k → {r : Answer} → r ≡ answer 0 k → outcome r b tab ≡ heapStep t m (Copy p y n) (heapOf a tab)
-unfolding stateRules value stored entered
-copy-done {t} {m} {p} {y} {n} {a} {tab} d f q o u x e =
+unfolding value stored entered
+copy-done {n = n} d f free q o u x e =
     let count = q ∙ ap₂ (λ (i j : ℕ). min n (min i j)) (left-is d refl) (left-is f refl) in
-    rw (e, x, o, u, count) (step-accepted t m (Copy p y n) a tab (d .ready) (numbers-first (d .ready) ∙ rw (d .found, f .found)))
+    rw (e, x, o, u, count) (unlocked-accepted d (copy-last (d .ready) (d .found) (f .found)) free)

@@ -12,5 +12,6 @@ pub mod Stepping
 pub mod Placing
 pub mod Showing
 pub mod MissingKinds
+pub mod Locking
 pub mod AnswerBytes
 pub mod Changes

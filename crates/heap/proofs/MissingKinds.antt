@@ -19,7 +19,7 @@ use Rattle.heap.specs.Rules.{outsideArena, dead, argumentRules, stateRul
 use Rattle.heap.specs.Heaps.{Heap, heapView, viewOf, heapStep, heapCall, pointerNumber, bit, checkStep, heapCheck}
 use Rattle.heap.specs.MissingKinds.{pointersOf, freeAt, atFreeSlot, judgedBefore, Tells}
 use Rattle.heap.specs.declared.Call.{Call}
-use Rattle.heap.specs.declared.Call.the-variants.{Get, Give, Step, Read, Write, Left, Copy, Fill}
+use Rattle.heap.specs.declared.Call.the-variants.{Get, Give, Step, Read, Write, Left, Copy, Fill, SetLock}
 use Rattle.common.proofs.Booleans.{and-right, or-cases, or-right, or-false-left, or-false-right}
 use Rattle.common.proofs.Refusals.{allOf, condOf, once, given, upTo, earlier, numbersTo, reached, one-of-more}
 use Rattle.blocks.proofs.Outside.{missing-free}
@@ -89,6 +89,7 @@ module _ (w : View) where
         to-22 = λ x. refl;
       }
   listed (Fill p v n) = single p _ refl refl refl refl refl refl refl refl
+  listed (SetLock p l) = single p _ refl refl refl refl refl refl refl refl
 
 -- of a table whose length fits, in slots of 2 ^ t
 module _ (t m : ℕ) (h : Heap) (low : t ≤ m) (slots : length (h .table) ≡ 2 ^ (m - t)) where

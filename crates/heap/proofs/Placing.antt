@@ -1,5 +1,5 @@
--- The outcomes of get and give: a block put where the placing rule says, a free range of at least its order (`place-sound`), and a block taken away, whose
--- slots are those from its start on (`slots-of`).
+-- The outcomes of get, give, lock and unlock: a block put where the placing rule says, a free range of at least its order (`place-sound`), and a block taken
+-- away or stamped anew, whose slots are those from its start on (`slots-of`).
 use Prim.Native.Nat.{ℕ, _+_, _-_, _*_, _/_, _^_, _≤_}
 use mathlib.Core.Path.{_≡_, refl, sym, _∙_, ap, subst}
 use mathlib.Core.Bool.{Bool, true, false, not, cond, _||_}
@@ -12,8 +12,8 @@ use lib.ListN.{length, replicate}
 use lib.Pow.{pow-mono}
 use Rattle.common.specs.Refusals.{_when_, first}
 use Rattle.common.specs.Bytes.{over}
-use Rattle.blocks.specs.Blocks.{base, orderIn}
-use Rattle.blocks.specs.Tables.{entryOf, freeIn}
+use Rattle.blocks.specs.Blocks.{base, startIn, orderIn}
+use Rattle.blocks.specs.Tables.{entryOf, freeIn, lockedIn}
 use Rattle.blocks.specs.Orders.{neededOrder}
 use Rattle.blocks.specs.Placing.{placeIn}
 use Rattle.blocks.specs.declared.Place.{Place}
@@ -25,15 +25,16 @@ use Rattle.blocks.proofs.Orders.{Needed, needed-order}
 use Rattle.blocks.proofs.Places.{place-sound, range-inside}
 use Rattle.blocks.proofs.Slots.{slotOf, slot-start, slots-of}
 use Rattle.heap.specs.Views.{View, referentOfPointer, neededFor, placeFor, noPlace, placeAddress, startFor}
-use Rattle.heap.specs.Rules.{not-start, argumentRules, stateRules}
+use Rattle.heap.specs.Rules.{not-start, lockRules, argumentRules, stateRules}
 use Rattle.heap.specs.Effects.{value, stored, cleared}
 use Rattle.heap.specs.Heaps.{heapOf, heapView, stamped, entered, heapStep, outcome}
 use Rattle.heap.specs.Inner.{Ready}
 use Rattle.heap.specs.declared.Answer.{Answer}
-use Rattle.heap.specs.declared.Call.the-variants.{Get, Give}
+use Rattle.heap.specs.declared.Call.{Call}
+use Rattle.heap.specs.declared.Call.the-variants.{Get, Give, SetLock}
 use Rattle.heap.proofs.Settling.{answer}
 use Rattle.heap.proofs.Judging.{argument-clear, step-refused, step-accepted}
-use Rattle.heap.proofs.Accesses.{Led, home-first}
+use Rattle.heap.proofs.Accesses.{Led, home-first, unlocked-accepted}
 use Rattle.heap.proofs.Homes.{located-inside}
 
 -- Of a get that is ready: the order that it needs, and the place for it.
@@ -80,17 +81,24 @@ module _ (t m n : ℕ) (a tab : List ℕ) (z : Ready t m (Get n) a tab) (e : ℕ
     placed = ap (placeIn (freeIn tab) t 0 m) (sym q) ∙ h
 
     pub get-done : (x : ℕ) (a′ tab′ : List ℕ) → x ≡ base + s * 2 ^ t → a′ ≡ over a (s * 2 ^ t) (replicate (2 ^ e) 0)
-        → tab′ ≡ over tab s (replicate (2 ^ (e - t)) (entryOf e)) → outcome (answer 0 x) a′ tab′ ≡ heapStep t m (Get n) (heapOf a tab)
+        → tab′ ≡ over tab s (replicate (2 ^ (e - t)) (entryOf e false)) → outcome (answer 0 x) a′ tab′ ≡ heapStep t m (Get n) (heapOf a tab)
     unfolding stateRules value stored entered
     get-done x a′ tab′ xe ae te =
         let d : base + s * 2 ^ t - base ≡ s * 2 ^ t = omega arith in
         let f : (base + s * 2 ^ t - base) / 2 ^ t ≡ s = slot-start t s in
         let am : a′ ≡ cleared a (startFor n v - base) (neededFor n v) = ae ∙ rw (placed, d, ← q) in
-        let tm : tab′ ≡ stamped t tab (startFor n v) (neededFor n v) (entryOf (neededFor n v)) = te ∙ rw (placed, f, ← q) in
+        let tm : tab′ ≡ stamped t tab (startFor n v) (neededFor n v) (entryOf (neededFor n v) false) = te ∙ rw (placed, f, ← q) in
         let xm : x ≡ startFor n v = xe ∙ sym (ap (placeAddress t) placed) in
         rw (xm, am, tm) (step-accepted t m (Get n) a tab z (ap (λ (y : Place). first (21 when noPlace y ∷ [])) placed))
 
--- Of a give: the block of order e at s, to which p leads.
+-- The slots of the block of order e at s, to which p leads, lie in the table: `at` is the block's place in the arena, k how many it has.
+pub block-slots : {t m p s e at k : ℕ} {c : Call} {a tab : List ℕ} → Led t m c a tab p s e → at ≡ s - base → k ≡ 2 ^ (e - t) → at / 2 ^ t + k ≤ length tab
+block-slots {t} {m} {s = s} {e = e} d o k =
+    let b = slots-of t m (record { start = s; order = e }) (d .within .aligned) in
+    let i : slotOf t s ≡ b .first = ap (slotOf t) (b .start) ∙ slot-start t (b .first) in
+    omega (arith, b .within, d .ready .sound .slots, ap (λ (x : ℕ). x / 2 ^ t) o)
+
+-- Of a give: p is the block's start, or else it is refused.
 module _ {t m p : ℕ} {a tab : List ℕ} {s e : ℕ} (d : Led t m (Give p) a tab p s e) where
   abbrev u : View
   u = heapView t m (heapOf a tab)
@@ -98,24 +106,32 @@ module _ {t m p : ℕ} {a tab : List ℕ} {s e : ℕ} (d : Led t m (Give p) a ta
   abbrev f : referentOfPointer u p ≡ Found s e
   f = located-inside u p (d .found) .1
 
-  own-first : (b : Bool) → eqb s p ≡ b → first (stateRules (Give p) u) ≡ cond (not b) 23 0
+  own-first : (b : Bool) → eqb s p ≡ b → first (stateRules (Give p) u) ≡ cond (not b) 23 (first (lockRules u p))
   unfolding stateRules
-  own-first b h = home-first (d .ready) p (23 when not-start (referentOfPointer u p) p ∷ []) refl (d .found) ∙ rw (f, h)
+  own-first b h = home-first (d .ready) p (23 when not-start (referentOfPointer u p) p ∷ lockRules u p) refl (d .found) ∙ rw (f, h)
 
   pub give-inside : (s ≡ p → ⊥) → {r : Answer} → r ≡ answer 23 0 → outcome r a tab ≡ heapStep t m (Give p) (heapOf a tab)
   give-inside n y = rw y (step-refused t m (Give p) a tab (d .ready) 23 (sym (own-first false (ne-eqb s p n))) (λ x. omega arith))
 
-  -- `at` is p's place in the arena, k how many slots the block has
-  module _ (q : s ≡ p) {at k : ℕ} (o : at ≡ p - base) (c : k ≡ 2 ^ (e - t)) where
-    pub give-slots : at / 2 ^ t + k ≤ length tab
-    give-slots =
-        let b = slots-of t m (record { start = s; order = e }) (d .within .aligned) in
-        let i : slotOf t p ≡ b .first = ap (slotOf t) (sym q ∙ b .start) ∙ slot-start t (b .first) in
-        omega (arith, b .within, d .ready .sound .slots, ap (λ (x : ℕ). x / 2 ^ t) o)
+  pub give-last : s ≡ p → first (stateRules (Give p) u) ≡ first (lockRules u p)
+  give-last q = own-first true (eq-eqb s p q)
 
-    pub give-done : {tab′ : List ℕ} → tab′ ≡ over tab (at / 2 ^ t) (replicate k 0) → {r : Answer} → r ≡ answer 0 0
-        → outcome r a tab′ ≡ heapStep t m (Give p) (heapOf a tab)
-    unfolding value stored entered
-    give-done te y =
-        let tm : over tab (at / 2 ^ t) (replicate k 0) ≡ stamped t tab p (orderIn (referentOfPointer u p)) 0 = rw (o, c, f) in
-        rw (y, te, tm) (step-accepted t m (Give p) a tab (d .ready) (own-first true (eq-eqb s p q)))
+  pub give-done : s ≡ p → lockedIn t tab p ≡ false → {at k : ℕ} → at ≡ p - base → k ≡ 2 ^ (e - t)
+      → {tab′ : List ℕ} → tab′ ≡ over tab (at / 2 ^ t) (replicate k 0) → {r : Answer} → r ≡ answer 0 0
+      → outcome r a tab′ ≡ heapStep t m (Give p) (heapOf a tab)
+  unfolding value stored entered
+  give-done q n {at} {k} o c te y =
+      let tm : over tab (at / 2 ^ t) (replicate k 0) ≡ stamped t tab p (orderIn (referentOfPointer u p)) 0 = rw (o, c, f) in
+      rw (y, te, tm) (unlocked-accepted d (give-last q) n)
+
+-- Of a lock or an unlock: the block's entries become x.
+pub lock-done : {t m p s e : ℕ} {l : Bool} {a tab : List ℕ} → Led t m (SetLock p l) a tab p s e → {at k x : ℕ} → at ≡ s - base → k ≡ 2 ^ (e - t)
+    → x ≡ entryOf e l → {tab′ : List ℕ} → tab′ ≡ over tab (at / 2 ^ t) (replicate k x) → {r : Answer} → r ≡ answer 0 0
+    → outcome r a tab′ ≡ heapStep t m (SetLock p l) (heapOf a tab)
+unfolding stateRules value stored entered
+lock-done {t} {m} {p} {s} {e} {l} {a} {tab} d {at} {k} {x} o c i te y =
+    let u : View = heapView t m (heapOf a tab) in
+    let h = referentOfPointer u p in
+    let f : h ≡ Found s e = located-inside u p (d .found) .1 in
+    let tm : over tab (at / 2 ^ t) (replicate k x) ≡ stamped t tab (startIn h) (orderIn h) (entryOf (orderIn h) l) = rw (o, c, i, f) in
+    rw (y, te, tm) (step-accepted t m (SetLock p l) a tab (d .ready) (home-first (d .ready) p [] refl (d .found)))

@@ -10,7 +10,7 @@ use Rattle.heap.specs.Rules.{addressRules}
 use Rattle.heap.specs.Heaps.{Heap, heapOf, heapCall, heapFresh, freshHeap, checkStep, heapCheck, pointerNumber, shown}
 use Rattle.heap.specs.declared.Answer.{Answer}
 use Rattle.heap.specs.declared.Call.{Call}
-use Rattle.heap.specs.declared.Call.the-variants.{Get, Give, Step, Read, Write, Left, Copy, Fill}
+use Rattle.heap.specs.declared.Call.the-variants.{Get, Give, Step, Read, Write, Left, Copy, Fill, SetLock}
 use Rattle.heap.proofs.Computing.{computed}
 
 -- a line of a vector: a call with its number and value, a fresh, a check, a show with its number and bytes, an entry overwritten, a buffer
@@ -124,6 +124,22 @@ which-missing : holdAt
     (freshHeap 5) ≡ true
 unfolding holdAt
 which-missing = refl
+
+-- Request 7: a block of two slots is locked by an inner address, and again; what it refuses then, 23 and 25 before 28 and with 0 bytes too; what it does not;
+-- a get beside it; unlocked, written and given back; and what refuses a lock, entries with the bit that are damage among it.
+locked-blocks : holdAt
+    (answers (Get 20) 0 65536 ∷ answers (Get 16) 0 65568 ∷ answers (SetLock 65550 true) 0 0 ∷ tableIs (133 ∷ 133 ∷ 4 ∷ 0 ∷ [])
+    ∷ answers (SetLock 65567 true) 0 0 ∷ tableIs (133 ∷ 133 ∷ 4 ∷ 0 ∷ []) ∷ answers (Write 65536 1 7) 28 0 ∷ answers (Write 65565 4 7) 25 0
+    ∷ answers (Fill 65536 1 0) 28 0 ∷ answers (Copy 65536 65568 0) 28 0 ∷ answers (Copy 65536 65536 1) 28 0 ∷ answers (Give 65552) 23 0
+    ∷ answers (Give 65536) 28 0 ∷ answers (Copy 65568 65536 99) 0 16 ∷ answers (Read 65536 4) 0 0 ∷ answers (Left 65560) 0 8
+    ∷ answers (Step 65536 39) 0 2147549223 ∷ checks 65536 31 0 1 ∷ checks 65536 32 0 0 ∷ shows 65560 0 (replicate 8 0) ∷ answers (Get 17) 21 0
+    ∷ answers (Get 1) 0 65584 ∷ tableIs (133 ∷ 133 ∷ 4 ∷ 4 ∷ []) ∷ answers (SetLock 65552 false) 0 0 ∷ answers (Write 65536 1 7) 0 0
+    ∷ answers (Give 65536) 0 0 ∷ tableIs (0 ∷ 0 ∷ 4 ∷ 4 ∷ []) ∷ answers (SetLock 65536 true) 22 0 ∷ answers (SetLock 65600 false) 27 0
+    ∷ answers (SetLock 2147549216 true) 13 0 ∷ pokes 1 128 ∷ answers (SetLock 65568 true) 20 0 ∷ pokes 1 131 ∷ answers (Left 65568) 20 0
+    ∷ pokes 1 135 ∷ answers (Get 1) 20 0 ∷ pokes 1 133 ∷ answers (Left 65568) 20 0 ∷ pokes 1 132 ∷ answers (Fill 65552 1 1) 28 0 ∷ [])
+    (freshHeap 6) ≡ true
+unfolding holdAt
+locked-blocks = refl
 
 -- lengths that are no heap's: 48 bytes, and a table of one entry too many
 wrong-arena : holdAt (answers (Get 1) 8 0 ∷ freshens 8 ∷ checks 65536 0 8 0 ∷ shows 65536 8 [] ∷ []) (heapOf (replicate 48 7) (replicate 3 0)) ≡ true

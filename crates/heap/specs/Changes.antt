@@ -1,12 +1,14 @@
 -- What a call, if it is not refused, does to the set of blocks. The table, the ledger's pairs and the history all follow it.
 use Prim.Native.Nat.{ℕ}
+use mathlib.Core.Bool.{Bool}
 use Rattle.heap.specs.declared.Call.{Call}
-use Rattle.heap.specs.declared.Call.the-variants.{Get, Give, Step, Read, Write, Left, Copy, Fill}
+use Rattle.heap.specs.declared.Call.the-variants.{Get, Give, Step, Read, Write, Left, Copy, Fill, SetLock}
 
--- it adds a block for n bytes, removes the one that starts at p, or keeps the set
+-- it adds a block for n bytes, removes the one that starts at p, locks or unlocks the one that holds p, or keeps the set
 pub data Change : Type 0 where
   adds : ℕ → Change
   removes : ℕ → Change
+  relocks : ℕ → Bool → Change
   keeps : Change
 
 abbrev pub changeOf : Call → Change
@@ -18,3 +20,4 @@ changeOf (Write p k v) = keeps
 changeOf (Left p) = keeps
 changeOf (Copy p q n) = keeps
 changeOf (Fill p v n) = keeps
+changeOf (SetLock p l) = relocks p l

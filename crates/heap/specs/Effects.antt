@@ -1,4 +1,4 @@
--- Document 01, "The eight calls", with requests 2 and 3 of document 02: the value of a call that is not refused, and the bytes that it leaves.
+-- Document 01, "The eight calls", with requests 2, 3 and 7 of document 02: the value of a call that is not refused, and the bytes that it leaves.
 -- Both are said over a view, for the heap and the ledger alike.
 use Prim.Native.Nat.{ℕ, zero, suc, _+_, _-_, _^_, min}
 use mathlib.Core.Bool.{Bool, cond}
@@ -12,7 +12,7 @@ use Rattle.blocks.specs.Pointers.{markBit, address, exactSum}
 use Rattle.heap.specs.Views.{View, leftFrom, neededFor, startFor}
 use Rattle.heap.specs.declared.Answer.{Answer}
 use Rattle.heap.specs.declared.Call.{Call}
-use Rattle.heap.specs.declared.Call.the-variants.{Get, Give, Step, Read, Write, Left, Copy, Fill}
+use Rattle.heap.specs.declared.Call.the-variants.{Get, Give, Step, Read, Write, Left, Copy, Fill, SetLock}
 
 -- how many bytes a copy and a fill store
 abbrev pub copyCount : View → ℕ → ℕ → ℕ → ℕ
@@ -39,6 +39,7 @@ value (Write p k v) w b = 0
 value (Left p) w b = leftFrom w p
 value (Copy p q n) w b = copyCount w p q n
 value (Fill p v n) w b = fillCount w p n
+value (SetLock p l) w b = 0
 
 unfoldable pub stored : Call → View → List ℕ → List ℕ
 stored (Get n) w b = cleared b (startFor n w - base) (neededFor n w)
@@ -49,6 +50,7 @@ stored (Write p k v) w b = over b (p - base) (bytesOf k v)
 stored (Left p) w b = b
 stored (Copy p q n) w b = copied b (p - base) b (q - base) (copyCount w p q n)
 stored (Fill p v n) w b = over b (p - base) (replicate (fillCount w p n) v)
+stored (SetLock p l) w b = b
 
 -- the answer of a call that is not refused, and of one that is
 abbrev pub accepted : ℕ → Answer

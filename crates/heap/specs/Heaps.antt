@@ -6,8 +6,8 @@ use lib.Dec.{eqb}
 use lib.ListN.{length, take, drop, replicate}
 use Rattle.common.specs.Refusals.{_when_, first}
 use Rattle.common.specs.Bytes.{over}
-use Rattle.blocks.specs.Blocks.{base, orderIn}
-use Rattle.blocks.specs.Tables.{entryOf, damagedBy, freeIn, referentIn}
+use Rattle.blocks.specs.Blocks.{base, startIn, orderIn}
+use Rattle.blocks.specs.Tables.{entryOf, damagedBy, freeIn, lockedIn, referentIn}
 use Rattle.blocks.specs.Pointers.{sought, pointerReferent, address, wrappedSum, checkAt}
 use Rattle.blocks.specs.Orders.{isArenaOrder, orderOf}
 use Rattle.blocks.specs.declared.Referent.{Referent}
@@ -15,7 +15,7 @@ use Rattle.blocks.specs.declared.Referent.the-variants.{Missing, Found}
 use Rattle.heap.specs.Views.{View, slotOrder, referentOfPointer, leftFrom, neededFor, startFor}
 use Rattle.heap.specs.Rules.{rules, addressRules}
 use Rattle.heap.specs.Effects.{value, stored, Outcome, judged}
-use Rattle.heap.specs.Changes.{Change, adds, removes, keeps, changeOf}
+use Rattle.heap.specs.Changes.{Change, adds, removes, relocks, keeps, changeOf}
 use Rattle.heap.specs.declared.Answer.{Answer}
 use Rattle.heap.specs.declared.Call.{Call}
 use Rattle.heap.specs.declared.Call.the-variants.{Left}
@@ -46,6 +46,7 @@ heapView t m h =
       damaged = damagedBy t m (h .table);
       free = freeIn (h .table);
       referent = referentIn t (h .table);
+      locked = lockedIn t (h .table);
       inside = λ p i. insideByCheck t (pointerReferent t (referentIn t (h .table)) p) p i;
     }
 
@@ -55,8 +56,9 @@ stamped t tab s e x = over tab ((s - base) / 2 ^ t) (replicate (2 ^ (e - t)) x)
 
 -- the table after a call that is not refused, by what it does to the blocks
 unfoldable pub entered : Change → View → List ℕ → List ℕ
-entered (adds n) w tab = stamped (w .slot) tab (startFor n w) (neededFor n w) (entryOf (neededFor n w))
+entered (adds n) w tab = stamped (w .slot) tab (startFor n w) (neededFor n w) (entryOf (neededFor n w) false)
 entered (removes p) w tab = stamped (w .slot) tab p (orderIn (referentOfPointer w p)) 0
+entered (relocks p l) w tab = let h = referentOfPointer w p in stamped (w .slot) tab (startIn h) (orderIn h) (entryOf (orderIn h) l)
 entered keeps w tab = tab
 
 unfoldable pub heapStep : (t m : ℕ) → Call → Heap → Outcome Heap

@@ -4,6 +4,7 @@ pub mod Changes
 pub mod Effects
 pub mod MissingKinds
 pub mod Heaps
+pub mod Locking
 pub mod Inner
 pub mod Answers
 pub mod OperationNumbers

@@ -10,7 +10,7 @@ use Rattle.blocks.specs.Pointers.{sought, outsideAt}
 use Rattle.heap.specs.Views.{View}
 use Rattle.heap.specs.Rules.{outsideArena}
 use Rattle.heap.specs.declared.Call.{Call}
-use Rattle.heap.specs.declared.Call.the-variants.{Get, Give, Step, Read, Write, Left, Copy, Fill}
+use Rattle.heap.specs.declared.Call.the-variants.{Get, Give, Step, Read, Write, Left, Copy, Fill, SetLock}
 
 abbrev pub pointersOf : Call → List ℕ
 pointersOf (Get n) = []
@@ -21,6 +21,7 @@ pointersOf (Write p k v) = p ∷ []
 pointersOf (Left p) = p ∷ []
 pointersOf (Copy p q n) = p ∷ q ∷ []
 pointersOf (Fill p v n) = p ∷ []
+pointersOf (SetLock p l) = p ∷ []
 
 -- an exact address lies inside the arena, in a slot that is free
 abbrev pub freeAt : View → ℤ → Bool

@@ -1,10 +1,10 @@
--- How many calls lists in bytes can name: the operations are 1 to 8, the same in the records of a take and in the calls of a replay.
+-- How many calls lists in bytes can name: the operations are 1 to 10, the same in the records of a take and in the calls of a replay.
 use Prim.Native.Nat.{ℕ}
 use mathlib.Core.Bool.{Bool, _&&_}
 use lib.Dec.{leb}
 
 abbrev pub lastOperation : ℕ
-lastOperation = 8
+lastOperation = 10
 
 abbrev pub isOperation : ℕ → Bool
 isOperation op = leb 1 op && leb op lastOperation

@@ -1,5 +1,5 @@
--- Document 01, "Refused by the input" and "Refused by the state", with request 6 of document 02: the refusals of each call, in the order in which they are
--- judged.
+-- Document 01, "Refused by the input" and "Refused by the state", with requests 6 and 7 of document 02: the refusals of each call, in the order in which they
+-- are judged.
 use Prim.Native.Nat.{ℕ, _^_}
 use mathlib.Core.Bool.{Bool, false, not, _||_}
 use mathlib.Core.List.{List, [], _∷_, _++_}
@@ -11,7 +11,7 @@ use Rattle.blocks.specs.declared.Referent.{Referent}
 use Rattle.blocks.specs.declared.Referent.the-variants.{Missing, Found}
 use Rattle.heap.specs.Views.{View, referentOfPointer, leftFrom, placeFor, noPlace}
 use Rattle.heap.specs.declared.Call.{Call}
-use Rattle.heap.specs.declared.Call.the-variants.{Get, Give, Step, Read, Write, Left, Copy, Fill}
+use Rattle.heap.specs.declared.Call.the-variants.{Get, Give, Step, Read, Write, Left, Copy, Fill, SetLock}
 
 abbrev pub badWidth : ℕ → Bool
 badWidth k = not (eqb k 1 || (eqb k 2 || eqb k 4))
@@ -30,6 +30,7 @@ argumentRules m (Write p k v) = 11 when badWidth k ∷ 12 when leb (256 ^ k) v �
 argumentRules m (Left p) = plainRules p
 argumentRules m (Copy p q n) = 13 when (marked p || marked q) ∷ []
 argumentRules m (Fill p v n) = plainRules p
+argumentRules m (SetLock p l) = plainRules p
 
 -- a pointer's referent is sought outside the arena
 abbrev pub outsideArena : View → ℕ → Bool
@@ -55,16 +56,21 @@ not-start (Found s e) p = not (eqb s p)
 abbrev pub beyond : View → ℕ → ℕ → Bool
 beyond w p i = not (w .inside p i || inReach (w .slot) (referentOfPointer w p) (exactSum (address p) i))
 
--- By the state: no place, no referent, not a block's start, beyond the reach, past the referent's end (21, 27, 22, 23, 24, 25).
+-- What refuses a call that stores into p's block, be it no byte at all, or gives it back: it is locked. This is judged last, so p is plain and has a referent.
+abbrev pub lockRules : View → ℕ → List Refusal
+lockRules w p = 28 when w .locked p ∷ []
+
+-- By the state: no place, no referent, not a block's start, beyond the reach, past the referent's end, a locked block (21, 27, 22, 23, 24, 25, 28).
 unfoldable pub stateRules : Call → View → List Refusal
 stateRules (Get n) w = 21 when noPlace (placeFor n w) ∷ []
-stateRules (Give p) w = homeRules w p ++ (23 when not-start (referentOfPointer w p) p ∷ [])
+stateRules (Give p) w = homeRules w p ++ (23 when not-start (referentOfPointer w p) p ∷ lockRules w p)
 stateRules (Step p i) w = homeRules w p ++ (24 when beyond w p i ∷ [])
 stateRules (Read p k) w = homeRules w p ++ (25 when ltb (leftFrom w p) k ∷ [])
-stateRules (Write p k v) w = homeRules w p ++ (25 when ltb (leftFrom w p) k ∷ [])
+stateRules (Write p k v) w = homeRules w p ++ (25 when ltb (leftFrom w p) k ∷ lockRules w p)
 stateRules (Left p) w = homeRules w p
-stateRules (Copy p q n) w = bothHomes w p q
-stateRules (Fill p v n) w = homeRules w p
+stateRules (Copy p q n) w = bothHomes w p q ++ lockRules w p
+stateRules (Fill p v n) w = homeRules w p ++ lockRules w p
+stateRules (SetLock p l) w = homeRules w p
 
 -- All of them: 8, the arguments' (10 to 13), 20, the state's.
 unfoldable pub rules : Call → View → List Refusal

@@ -21,8 +21,9 @@ pub record View : Type 0 where
   pub damaged : Bool
   -- slot i is free
   pub free : ℕ → Bool
-  -- the block that holds an address
+  -- the block that holds an address, and whether it is locked
   pub referent : ℕ → Referent
+  pub locked : ℕ → Bool
   -- the step i from the pointer p stays in p's referent
   pub inside : ℕ → ℕ → Bool
 

@@ -1,7 +1,8 @@
-// The heap: fresh, the eight calls, check and show, on an arena and a table that the caller lends. The eight and check judge their
-// input, and then call their inner function in `unchecked`.
+// The heap: fresh, the ten calls, check and show, on an arena and a table that the caller lends. The ten and check judge their input,
+// and then call their inner function in `unchecked`.
 use blocks::BASE;
 ghost use mathlib.Core.Path.{_≡_};
+ghost use mathlib.Core.Bool.{true, false};
 ghost use Prim.Native.Nat.{_+_};
 ghost use Rattle.heap.specs.Heaps.{heapOf, outcome, heapCall, heapFresh, heapCheck, shown, shownByLeft, shownFrom};
 
@@ -22,7 +23,7 @@ pub struct Answer {
     pub value: u32,
 }
 
-// A call with its arguments. The step's i is a signed number in two's complement.
+// A call with its arguments. The step's i is a signed number in two's complement. Lock and unlock are one, which sets the lock to what it says.
 pub enum Call {
     Get(u32),
     Give(u32),
@@ -32,6 +33,7 @@ pub enum Call {
     Left(u32),
     Copy(u32, u32, u32),
     Fill(u32, u8, u32),
+    SetLock(u32, bool),
 }
 
 // Makes the heap fresh: both buffers all zero.
@@ -169,6 +171,20 @@ pub fn fill(arena: &mut [u8], table: &[u8], p: u32, v: u8, n: u32) -> Answer
     unchecked::fill(arena, table, SLOT_ORDER, m, p, v, n)
 }
 
+// Locks the block that holds p: write, fill, copy into it and give are refused from then on.
+pub fn lock(arena: &[u8], table: &mut [u8], p: u32) -> Answer
+    ensures { λ r. ⌜ outcome r (now (arena .entry)) (now (table .exit)) ≡ heapCall (Call.SetLock p true) (heapOf (now (arena .entry)) (now (table .entry))) ⌝ }
+{
+    set_lock(arena, table, p, true)
+}
+
+// Unlocks it.
+pub fn unlock(arena: &[u8], table: &mut [u8], p: u32) -> Answer
+    ensures { λ r. ⌜ outcome r (now (arena .entry)) (now (table .exit)) ≡ heapCall (Call.SetLock p false) (heapOf (now (arena .entry)) (now (table .entry))) ⌝ }
+{
+    set_lock(arena, table, p, false)
+}
+
 // The check of the plain address p and the step i: 1 where the sum stays in p's referent, else 0. It is in no list of calls and judges by its own short
 // list. (With that the scan has two callers: the compiler keeps it apart, and puts the judging into each call.)
 pub fn check(arena: &[u8], table: &[u8], p: u32, i: u32) -> Answer
@@ -200,4 +216,22 @@ pub fn show<'a>(arena: &'a [u8], table: &[u8], p: u32) -> &'a [u8]
     let at = (p - BASE) as usize;
     let end = at + answer.value as usize;
     &arena[at..end]
+}
+
+// Locks the block that holds p, or unlocks it.
+fn set_lock(arena: &[u8], table: &mut [u8], p: u32, locked: bool) -> Answer
+    ensures { λ r. ⌜ outcome r (now (arena .entry)) (now (table .exit))
+        ≡ heapCall (Call.SetLock p locked) (heapOf (now (arena .entry)) (now (table .entry))) ⌝ }
+{
+    let m = sizes::order_of(arena, table, SLOT_ORDER);
+    let number = refusals::before_call(
+        table,
+        SLOT_ORDER,
+        m,
+        refusals::arguments(m, Call::SetLock(p, locked)),
+    );
+    if number != 0 {
+        return answers::refused(number);
+    }
+    unchecked::set_lock(arena, table, SLOT_ORDER, m, p, locked)
 }

@@ -88,6 +88,7 @@ pub fn arguments(m: u32, c: Call) -> u32
         Call::Left(p) => plain(p),
         Call::Copy(p, q, _) => if blocks::is_marked(p) { 13 } else { plain(q) },
         Call::Fill(p, _, _) => plain(p),
+        Call::SetLock(p, _) => plain(p),
     }
 }
 

@@ -1,5 +1,5 @@
 // The calls once their input has been judged: the lengths fit, the table is undamaged, the arguments are in range. What is left to refuse
-// depends on the blocks (21, 27, 22 to 25). A slot has 2^t bytes. A run calls `call`, and never scans the table.
+// depends on the blocks (21, 27, 22 to 25, 28). A slot has 2^t bytes. A run calls `call`, and never scans the table.
 use crate::Answer;
 use crate::Call;
 use crate::answers::accepted;
@@ -55,7 +55,12 @@ pub fn get(arena: &mut [u8], table: &mut [u8], t: u32, m: u32, n: u32) -> Answer
     match blocks::find_place(table, t, m, e) {
         Place::Nothing => refused(21),
         Place::At { slot, order: _ } => {
-            common::fill(table, slot, blocks::slots_of(t, e), blocks::entry_of(e));
+            common::fill(
+                table,
+                slot,
+                blocks::slots_of(t, e),
+                blocks::entry_of(e, false),
+            );
             let at = slot * blocks::size_of(t) as usize;
             common::fill(arena, at, blocks::size_of(e) as usize, 0);
             accepted(BASE + at as u32)
@@ -72,6 +77,9 @@ pub fn give(arena: &[u8], table: &mut [u8], t: u32, m: u32, p: u32) -> Answer
         Located::Inside(s, e) => {
             if s != p {
                 return refused(23);
+            }
+            if blocks::is_locked(table, t, s) {
+                return refused(28);
             }
             common::fill(table, offset(p) >> t, blocks::slots_of(t, e), 0);
             accepted(0)
@@ -143,6 +151,9 @@ pub fn write(arena: &mut [u8], table: &[u8], t: u32, m: u32, p: u32, w: u8, v: u
             if (left_in(s, e, p) as usize) < size {
                 return refused(25);
             }
+            if blocks::is_locked(table, t, p) {
+                return refused(28);
+            }
             common::write_number(arena, offset(p), size, v);
             accepted(0)
         }
@@ -169,6 +180,9 @@ pub fn copy(arena: &mut [u8], table: &[u8], t: u32, m: u32, p: u32, q: u32, n: u
         Located::Inside(s, e) => match locate(table, t, m, q) {
             Located::Refused(other) => refused(other),
             Located::Inside(z, k) => {
+                if blocks::is_locked(table, t, p) {
+                    return refused(28);
+                }
                 let c = least(n, least(left_in(s, e, p), left_in(z, k, q)));
                 common::copy(arena, offset(p), offset(q), c as usize);
                 accepted(c)
@@ -184,9 +198,28 @@ pub fn fill(arena: &mut [u8], table: &[u8], t: u32, m: u32, p: u32, v: u8, n: u3
     match locate(table, t, m, p) {
         Located::Refused(number) => refused(number),
         Located::Inside(s, e) => {
+            if blocks::is_locked(table, t, p) {
+                return refused(28);
+            }
             let c = least(n, left_in(s, e, p));
             common::fill(arena, offset(p), c as usize, v);
             accepted(c)
+        }
+    }
+}
+
+pub fn set_lock(arena: &[u8], table: &mut [u8], t: u32, m: u32, p: u32, locked: bool) -> Answer
+    requires { ⌜ Ready t m (Call.SetLock p locked) (now arena) (now table) ⌝ }
+    ensures { λ r. ⌜ outcome r (now (arena .entry)) (now (table .exit))
+        ≡ heapStep t m (Call.SetLock p locked) (heapOf (now (arena .entry)) (now (table .entry))) ⌝ }
+{
+    match locate(table, t, m, p) {
+        Located::Refused(number) => refused(number),
+        Located::Inside(s, e) => {
+            let first = offset(s) >> t;
+            let entry = blocks::entry_of(e, locked);
+            common::fill(table, first, blocks::slots_of(t, e), entry);
+            accepted(0)
         }
     }
 }
@@ -220,5 +253,6 @@ pub fn call(arena: &mut [u8], table: &mut [u8], t: u32, m: u32, c: Call) -> Answ
         Call::Left(p) => left(arena, table, t, m, p),
         Call::Copy(p, q, n) => copy(arena, table, t, m, p, q, n),
         Call::Fill(p, v, n) => fill(arena, table, t, m, p, v, n),
+        Call::SetLock(p, locked) => set_lock(arena, table, t, m, p, locked),
     }
 }

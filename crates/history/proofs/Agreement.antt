@@ -5,7 +5,7 @@ use mathlib.Core.Bool.{true}
 use mathlib.Core.List.{List, [], _∷_}
 use lib.ListN.{length}
 use Rattle.blocks.specs.Blocks.{Block, holds, Aligned}
-use Rattle.blocks.specs.Sets.{referentOf, tableOf}
+use Rattle.blocks.specs.Sets.{ranges, referentOf, tableOf}
 use Rattle.blocks.specs.declared.Referent.the-variants.{Missing}
 use Rattle.heap.specs.Effects.{Outcome}
 use Rattle.heap.specs.Heaps.{Heap}
@@ -27,7 +27,7 @@ pub record Agree (t m : ℕ) (h : Heap) (l : Ledger) : Type 0 where
   pub bytes : h .arena ≡ l .bytes
   pub size : length (h .arena) ≡ 2 ^ m
   pub table : h .table ≡ tableOf t m (l .pairs)
-  pub proper : Proper t m (l .pairs)
+  pub proper : Proper t m (ranges (l .pairs))
 
 -- the two outcomes of a call are alike
 pub record Same (t m : ℕ) (a : Outcome Heap) (b : Outcome Ledger) : Type 0 where

@@ -5,7 +5,7 @@ use mathlib.Core.Path.{_≡_, refl, sym, _∙_, ap, ap₂}
 use mathlib.Core.List.{List, [], _∷_}
 use native.Mathlib.Omega.{arith}
 use lib.ListN.{length, replicate, length-replicate}
-use Rattle.blocks.specs.Sets.{referentOf, entriesFrom, tableOf}
+use Rattle.blocks.specs.Sets.{referentOf, lockedOf, entriesFrom, tableOf}
 use Rattle.blocks.specs.Orders.{orderOf}
 use Rattle.blocks.proofs.Orders.{order-power}
 use Rattle.heap.specs.Views.{slotOrder}
@@ -21,7 +21,7 @@ use Rattle.history.proofs.Simulation.{step-same}
 
 -- the table of no block is all zero
 no-entries : (t a k : ℕ) → replicate k 0 ≡ entriesFrom t [] a k
-unfolding entriesFrom referentOf
+unfolding entriesFrom referentOf lockedOf
 no-entries t a zero = refl
 no-entries t a (suc k) = ap (λ (x : List ℕ). 0 ∷ x) (no-entries t (a + 2 ^ t) k)
 

@@ -14,6 +14,7 @@ use lib.Signed.{leZ}
 use lib.Pow.{pow-pos, pow-mono, low}
 use borrow.Author.Tests.{leb-true, ltb-true, le-leb, lt-leb, lt-ltb, le-ltb}
 use Rattle.blocks.specs.Blocks.{base, Block, holds, Aligned}
+use Rattle.blocks.specs.Sets.{ranges}
 use Rattle.blocks.specs.Pointers.{markBit, marked, address, sought, signed, exactSum, within, inReach}
 use Rattle.blocks.specs.declared.Referent.the-variants.{Found}
 use Rattle.common.proofs.Booleans.{and-left, and-right, or-cases}
@@ -151,7 +152,7 @@ module _ (t m : ℕ) (b : Block) (a : Aligned t m b) (slot : 1 ≤ t) (size : m 
 
 -- ---- the calls
 
-module _ {t m : ℕ} (os : Orders t m) (h : Heap) (l : Ledger) (agree : Agree t m h l) (b : Block) (member : List·Memᴰ b (l .pairs)) where
+module _ {t m : ℕ} (os : Orders t m) (h : Heap) (l : Ledger) (agree : Agree t m h l) (b : Block) (member : List·Memᴰ b (ranges (l .pairs))) where
   aligned : Aligned t m b
   aligned = proper-set (agree .proper) .aligned b member
 
@@ -181,7 +182,7 @@ module _ {t m : ℕ} (os : Orders t m) (h : Heap) (l : Ledger) (agree : Agree t 
         → checked q i (ledgerView t m l) ≡ record { answer = accepted (bit (within (Found (b .start) (b .order)) (exactSum q i))); state = h }
     unfolding addressRules sought
     check-by-ledger i =
-        rw (lt-leb markBit q low-address, held-inside t m b aligned q held, member-found t m (l .pairs) (proper-set (agree .proper)) b q member held)
+        rw (lt-leb markBit q low-address, held-inside t m b aligned q held, member-found t m (ranges (l .pairs)) (proper-set (agree .proper)) b q member held)
 
     pub check-is : (i : ℕ) → checkStep t m q i h ≡ accepted (bit (within (Found (b .start) (b .order)) (exactSum q i)))
     unfolding checkStep
@@ -198,7 +199,7 @@ module _ {t m : ℕ} (os : Orders t m) (h : Heap) (l : Ledger) (agree : Agree t 
       step-by-ledger : stepped (markBit + r) (distance r q) (ledgerView t m l) ≡ record { answer = accepted q; state = h }
       unfolding rules argumentRules stateRules value stored entered within
       step-by-ledger =
-          let found = member-found t m (l .pairs) (proper-set (agree .proper)) b (back .at) member (back .held) in
+          let found = member-found t m (ranges (l .pairs)) (proper-set (agree .proper)) b (back .at) member (back .held) in
           rw (back .seeks, held-inside t m b aligned (back .at) (back .held), found, exact, held)
 
       pub recovers : heapStep t m (Step (markBit + r) (distance r q)) h ≡ record { answer = accepted q; state = h }

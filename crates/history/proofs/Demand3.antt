@@ -1,8 +1,8 @@
--- Demand 3, for every list of the eight calls with any arguments, from a fresh heap of 2 ^ m bytes, m from 5 to 16:
+-- Demand 3, for every list of the ten calls with any arguments, from a fresh heap of 2 ^ m bytes, m from 5 to 16:
 --   answers   the list of all numbers and values, in the calls' order, equals the ledger's;
 --   bytes     all arena bytes equal the ledger's;
 --   pairs     the ledger's pairs are aligned blocks of the arena that don't overlap,
---   table     and the table is the one table of them;
+--   table     and the table is the one table of them, with their locks;
 --   lives     the blocks live by the history, so by arguments and answers alone, are its pairs, starts and orders;
 --   check     from each address of a live block the check gives 1 for exactly the steps that stay in the block, else 0, and is not refused;
 --   recovery  every marked pointer in reach before or past a live block leads back, by step, to each of its addresses;
@@ -14,6 +14,7 @@
 use Prim.Native.Nat.{ℕ, _≤_}
 use mathlib.Core.Path.{_≡_, sym, _∙_, ap, subst}
 use mathlib.Core.List.{List, List·Memᴰ}
+use Rattle.blocks.specs.Sets.{ranges}
 use Rattle.heap.specs.Views.{slotOrder}
 use Rattle.heap.specs.Heaps.{heapCall, freshHeap, checkStep, heapCheck}
 use Rattle.heap.specs.declared.Call.{Call}
@@ -22,7 +23,7 @@ use Rattle.history.specs.CallLists.{heapRun, ledgerRun}
 use Rattle.history.specs.Histories.{liveBy}
 use Rattle.history.specs.Demand3.{after, live, Demand3}
 use Rattle.history.proofs.Agreement.{Proper, Orders}
-use Rattle.history.proofs.Pairs.{proper-set}
+use Rattle.history.proofs.Locks.{proper-pairs}
 use Rattle.history.proofs.CallLists.{fresh-agree, slot-orders, fresh-is, order-same, call-steps, Alike, run-same}
 use Rattle.history.proofs.Live.{lives}
 use Rattle.history.proofs.Checking.{places-apart, check-is, recovers}
@@ -40,12 +41,12 @@ demand3 m five top cs =
     let agree = alike os cs .agree in
     let step = call-steps os (after m cs) l agree in
     let order = order-same os (after m cs) l agree in
-    let are : live m cs ≡ l .pairs = ap (liveBy slotOrder m cs) same ∙ lives slotOrder m cs in
+    let are : live m cs ≡ ranges (l .pairs) = ap (liveBy slotOrder m cs) same ∙ lives slotOrder m cs in
     record {
       start = λ h a t. fresh-is m h five top a t;
       answers = same;
       bytes = agree .bytes;
-      pairs = proper-set (agree .proper);
+      pairs = proper-pairs (l .pairs) (agree .proper);
       table = agree .table;
       lives = are;
       check = λ b i q k j.

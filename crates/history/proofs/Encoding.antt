@@ -1,14 +1,15 @@
 -- Calls as bytes: one call read, and the calls from one place on, of which each law opens the first (`one-more`, `next-place`).
 use Prim.Native.Nat.{ℕ, suc, _+_, _-_, _*_, _≤_, _<_}
-use mathlib.Core.Path.{_≡_}
+use mathlib.Core.Path.{_≡_, refl}
 use mathlib.Core.Bool.{true, false, not, _||_}
 use mathlib.Core.List.{List, _∷_}
 use native.Mathlib.Omega.{arith}
 use lib.ListN.{getD}
-use borrow.Author.Tests.{ne-eqb, le-leb, lt-leb}
+use borrow.Author.Tests.{le-leb, lt-leb}
 use Rattle.common.specs.Bytes.{bigEndian}
 use Rattle.heap.specs.OperationNumbers.{lastOperation, isOperation}
-use Rattle.heap.specs.declared.Call.the-variants.{Fill}
+use Rattle.heap.specs.declared.Call.the-variants.{SetLock}
+use Rattle.common.proofs.Arms.{NoneOf, no-arm}
 use Rattle.history.specs.Replaying.{callLength, callNamed, callAt, callsFrom, unknownFrom}
 
 module _ (s : List ℕ) (at a b c : ℕ) (x : a ≡ bigEndian s (at + 2) 4) (y : b ≡ bigEndian s (at + 6) 4) (z : c ≡ bigEndian s (at + 10) 4) where
@@ -16,9 +17,11 @@ module _ (s : List ℕ) (at a b c : ℕ) (x : a ≡ bigEndian s (at + 2) 4) (y :
   unfolding callAt
   call-is k e = rw (x, y, z, e)
 
-pub fill-is : (k x a b c : ℕ) → (k ≡ 1 → ⊥) → (k ≡ 2 → ⊥) → (k ≡ 3 → ⊥) → (k ≡ 4 → ⊥) → (k ≡ 5 → ⊥) → (k ≡ 6 → ⊥) → (k ≡ 7 → ⊥)
-    → Fill a x c ≡ callNamed k x a b c
-fill-is k x a b c n1 n2 n3 n4 n5 n6 n7 = rw (ne-eqb k 1 n1, ne-eqb k 2 n2, ne-eqb k 3 n3, ne-eqb k 4 n4, ne-eqb k 5 n5, ne-eqb k 6 n6, ne-eqb k 7 n7)
+-- no arm before has the operation
+pub unlock-is : (k x a b c : ℕ) → NoneOf k 9 → SetLock a false ≡ callNamed k x a b c
+unlock-is k x a b c n =
+    let t = no-arm k 9 n in
+    rw (t 1 refl, t 2 refl, t 3 refl, t 4 refl, t 5 refl, t 6 refl, t 7 refl, t 8 refl, t 9 refl)
 
 module _ (s : List ℕ) (n i : ℕ) (l : i < n) where
   one-more : n - i ≡ suc (n - (i + 1))

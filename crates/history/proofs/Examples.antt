@@ -13,7 +13,7 @@ use Rattle.blocks.specs.Tables.{any, entryOrder, referentIn}
 use Rattle.heap.specs.Heaps.{Heap, heapOf, heapCall}
 use Rattle.heap.specs.declared.Answer.{Answer}
 use Rattle.heap.specs.declared.Call.{Call}
-use Rattle.heap.specs.declared.Call.the-variants.{Get, Give, Step, Read, Write, Left, Copy, Fill}
+use Rattle.heap.specs.declared.Call.the-variants.{Get, Give, Step, Read, Write, Left, Copy, Fill, SetLock}
 use Rattle.heap.proofs.Computing.{computed}
 use Rattle.heap.proofs.Settling.{answer}
 use Rattle.history.specs.CallLists.{Run, run}
@@ -51,17 +51,17 @@ by-pointers c x = sourceIn hidden c
 
 -- ---- what lists give, that reveal the block and that do not
 
--- A copy within the block, one of 0 bytes out of it, a read that goes past its end and a write into it are free by their bytes. Then it is given back, and a
--- smaller block is got in its place: that one is clean, and the rest of the old range still differs.
+-- A copy within the block, one of 0 bytes out of it, a read that goes past its end and a write into it are free by their bytes. While it is locked, a give of
+-- it is refused. Then it is given back, and a smaller block is got in its place: that one is clean, and the rest of the old range still differs.
 given-back : List Call
 given-back =
-    Copy 65537 65536 4 ∷ Copy 65568 65536 0 ∷ Read 65566 4 ∷ Write 65538 1 7 ∷ Left 65540 ∷ Read 65568 2 ∷ Give 65536 ∷ Get 3 ∷ Read 65536 4
-    ∷ Copy 65568 65536 2 ∷ Read 65552 1 ∷ []
+    Copy 65537 65536 4 ∷ Copy 65568 65536 0 ∷ Read 65566 4 ∷ Write 65538 1 7 ∷ Left 65540 ∷ Read 65568 2 ∷ SetLock 65567 true ∷ Give 65536
+    ∷ SetLock 65536 false ∷ Give 65536 ∷ Get 3 ∷ Read 65536 4 ∷ Copy 65568 65536 2 ∷ Read 65552 1 ∷ []
 
 their-answers : List Answer
 their-answers =
-    answer 0 4 ∷ answer 0 0 ∷ answer 25 0 ∷ answer 0 0 ∷ answer 0 28 ∷ answer 0 2313 ∷ answer 0 0 ∷ answer 0 65536 ∷ answer 0 0
-    ∷ answer 0 2 ∷ answer 22 0 ∷ []
+    answer 0 4 ∷ answer 0 0 ∷ answer 25 0 ∷ answer 0 0 ∷ answer 0 28 ∷ answer 0 2313 ∷ answer 0 0 ∷ answer 28 0
+    ∷ answer 0 0 ∷ answer 0 0 ∷ answer 0 65536 ∷ answer 0 0 ∷ answer 0 2 ∷ answer 22 0 ∷ []
 
 Untold : ℕ → Type 0
 Untold x =
@@ -109,9 +109,12 @@ damaged-twins : Twins hidden (damaged-heap 1) (damaged-heap 2)
 unfolding floor entryOrder referentIn
 damaged-twins = record { live = refl; tables = refl; arenas = arenas }
 
--- all eight calls, with a step, a left, a write, a fill and a copy into the block; on the damaged table they are refused
+-- all ten calls, with a step, a left, a write and a copy into the block, and a fill of it while it is locked, which is refused, and once it is not; on the
+-- damaged table they are refused
 guest : List Call
-guest = Get 1 ∷ Step 65536 40 ∷ Read 65568 2 ∷ Write 65537 1 7 ∷ Left 65540 ∷ Copy 65536 65568 4 ∷ Fill 65540 3 2 ∷ Give 65568 ∷ []
+guest =
+    Get 1 ∷ Step 65536 40 ∷ Read 65568 2 ∷ Write 65537 1 7 ∷ Left 65540 ∷ Copy 65536 65568 4 ∷ SetLock 65540 true ∷ Fill 65540 3 2 ∷ SetLock 65540 false
+    ∷ Fill 65540 3 2 ∷ Give 65568 ∷ []
 
 guest-by-bytes : Undisclosed hidden (heap 1) (heap 2) guest
 unfolding unbarred guest

@@ -10,7 +10,7 @@ use lib.Pow.{pow-add, pow-mono}
 use borrow.Author.Tests.{ltb-false}
 use Rattle.common.specs.Refusals.{first}
 use Rattle.blocks.specs.Blocks.{base, Block, holds, Aligned}
-use Rattle.blocks.specs.Sets.{referentOf}
+use Rattle.blocks.specs.Sets.{ranges, referentOf}
 use Rattle.blocks.specs.declared.Place.{Place}
 use Rattle.blocks.specs.declared.Place.the-variants.{At, Nothing}
 use Rattle.blocks.specs.declared.Referent.the-variants.{Missing}
@@ -63,18 +63,18 @@ module _ (t m e : ℕ) (bs : List Block) (p : Proper t m bs) (low : t ≤ e) (s 
 abbrev pub got : (t m : ℕ) → Ledger → ℕ → Block
 got t m l n = let w = ledgerView t m l in block (startFor n w) (neededFor n w)
 
-module _ {t m : ℕ} (os : Orders t m) (l : Ledger) (proper : Proper t m (l .pairs)) (n : ℕ) where
+module _ {t m : ℕ} (os : Orders t m) (l : Ledger) (proper : Proper t m (ranges (l .pairs))) (n : ℕ) where
   abbrev v : View
   v = ledgerView t m l
 
   at-place : Needed t m n (neededFor n v) → (x : Place) → placeFor n v ≡ x → noPlace x ≡ false
-      → Placed t m (l .pairs) (block (placeAddress t x) (neededFor n v))
+      → Placed t m (ranges (l .pairs)) (block (placeAddress t x) (neededFor n v))
   at-place need Nothing q y = absurd (false≢true (sym y))
   at-place need (At s k) q y =
-      let free = place-sound (unheld t (l .pairs)) t 0 m (neededFor n v) s k (omega (arith, need .high)) q in
-      placed t m (neededFor n v) (l .pairs) proper (need .low) s k free
+      let free = place-sound (unheld t (ranges (l .pairs))) t 0 m (neededFor n v) s k (omega (arith, need .high)) q in
+      placed t m (neededFor n v) (ranges (l .pairs)) proper (need .low) s k free
 
-  pub got-placed : first (rules (Get n) v) ≡ 0 → Placed t m (l .pairs) (got t m l n)
+  pub got-placed : first (rules (Get n) v) ≡ 0 → Placed t m (ranges (l .pairs)) (got t m l n)
   unfolding rules argumentRules stateRules
   got-placed z =
       let c = clear (rules (Get n) v) refl z in

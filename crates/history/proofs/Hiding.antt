@@ -13,7 +13,7 @@ use borrow.Author.Tests.{ltb-false, eqb-true, eqb-false}
 use Rattle.common.specs.Refusals.{first}
 use Rattle.common.proofs.Bytes.{bigEndian-same, over-same}
 use Rattle.blocks.specs.Blocks.{base, Block, holds, missing}
-use Rattle.blocks.specs.Sets.{referentOf}
+use Rattle.blocks.specs.Sets.{Pair, ranges, referentOf}
 use Rattle.blocks.specs.Pointers.{marked}
 use Rattle.blocks.specs.declared.Referent.{Referent}
 use Rattle.blocks.specs.declared.Referent.the-variants.{Missing, Found}
@@ -24,16 +24,17 @@ use Rattle.blocks.proofs.Tables.{none-passes}
 use Rattle.heap.specs.Views.{View, leftFrom}
 use Rattle.heap.specs.Rules.{rules, argumentRules, stateRules, dead}
 use Rattle.heap.specs.Effects.{copyCount, value, stored, accepted}
-use Rattle.heap.specs.Changes.{Change, adds, removes, keeps, changeOf}
+use Rattle.heap.specs.Changes.{Change, adds, removes, relocks, keeps, changeOf}
 use Rattle.heap.specs.declared.Call.{Call}
-use Rattle.heap.specs.declared.Call.the-variants.{Get, Give, Step, Read, Write, Left, Copy, Fill}
+use Rattle.heap.specs.declared.Call.the-variants.{Get, Give, Step, Read, Write, Left, Copy, Fill, SetLock}
 use Rattle.common.proofs.Refusals.{clear}
-use Rattle.heap.proofs.Changes.{Changing, gets, gives-back, keeps-all, changing}
-use Rattle.history.specs.Ledgers.{Ledger, ledgerView, without, kept}
+use Rattle.heap.proofs.Changes.{Changing, gets, gives-back, sets-lock, keeps-all, changing}
+use Rattle.history.specs.Ledgers.{Ledger, ledgerView, kept}
 use Rattle.history.specs.Histories.{removesAt, givesBack}
 use Rattle.history.specs.Noninterference.{reveals, EqualOutside}
 use Rattle.history.proofs.Agreement.{Proper, Orders}
-use Rattle.history.proofs.Pairs.{whole, without-in, without-out, without-live, added-found, added-out}
+use Rattle.history.proofs.Pairs.{whole, dropped, dropped-in, dropped-out, dropped-live, added-found, added-out}
+use Rattle.history.proofs.Locks.{same-ranges, ranges-without, ranges-relocked, ranges-added}
 use Rattle.history.proofs.Gets.{got, got-placed}
 use Rattle.history.proofs.Stores.{Store, Home, home, home-holds, store, stored-length}
 
@@ -56,19 +57,23 @@ abbrev pub Standing : Bool → Block → (ℕ → Referent) → List ℕ → Lis
 Standing false b f a a′ = f (b .start) ≡ Found (b .start) (b .order)
 Standing true b f a a′ = (i : ℕ) → missing (f (base + i)) ≡ false → getD a i 0 ≡ getD a′ i 0
 
--- what an accepted call makes of two arenas over the pairs bs, which w is the view of
-pub record OnBoth (c : Call) (w : View) (bs : List Block) (b : Block) (a a′ : List ℕ) (given : Bool) : Type 0 where
+-- what an accepted call makes of two arenas over the pairs ps, which w is the view of
+pub record OnBoth (c : Call) (w : View) (ps : List Pair) (b : Block) (a a′ : List ℕ) (given : Bool) : Type 0 where
   pub values : value c w a ≡ value c w a′
   pub outside : EqualOutside b (stored c w a) (stored c w a′)
   pub standing :
-      Standing (given || givesBack (b .start) c (accepted (value c w a))) b (referentOf (kept (changeOf c) w bs)) (stored c w a) (stored c w a′)
+      Standing (given || givesBack (b .start) c (accepted (value c w a))) b (referentOf (ranges (kept (changeOf c) w ps))) (stored c w a) (stored c w a′)
 
-module _ {t m : ℕ} (os : Orders t m) (l : Ledger) (proper : Proper t m (l .pairs)) where
+module _ {t m : ℕ} (os : Orders t m) (l : Ledger) (proper : Proper t m (ranges (l .pairs))) where
   abbrev w : View
   w = ledgerView t m l
 
   abbrev bs : List Block
-  bs = l .pairs
+  bs = ranges (l .pairs)
+
+  -- the ranges of the pairs that a change leaves
+  abbrev left : Change → List Block
+  left c = ranges (kept c w (l .pairs))
 
   abbrev added : ℕ → Block
   added n = got t m l n
@@ -79,32 +84,38 @@ module _ {t m : ℕ} (os : Orders t m) (l : Ledger) (proper : Proper t m (l .pai
   -- ---- the pairs that an accepted call leaves
 
   -- a block stays until its start is given
-  kept-found : (c : Change) (s e : ℕ) → removesAt c s ≡ false → referentOf bs s ≡ Found s e → referentOf (kept c w bs) s ≡ Found s e
+  kept-found : (c : Change) (s e : ℕ) → removesAt c s ≡ false → referentOf bs s ≡ Found s e → referentOf (left c) s ≡ Found s e
   unfolding kept
-  kept-found (adds n) s e g h = added-found bs (added n) s s e h
-  kept-found (removes p) s e g h = without-out proper p s (λ o y. let z : p ≡ s = cc in eqb-false p s g z) ∙ h
+  kept-found (adds n) s e g h = same-ranges s (ranges-added (l .pairs) _) ∙ added-found bs (added n) s s e h
+  kept-found (removes p) s e g h =
+      same-ranges s (ranges-without p (l .pairs)) ∙ dropped-out proper p s (λ o y. let z : p ≡ s = cc in eqb-false p s g z) ∙ h
+  kept-found (relocks p k) s e g h = same-ranges s (ranges-relocked p k (l .pairs)) ∙ h
   kept-found keeps s e g h = h
 
   -- once it is given, no block holds an address of it
   given-back : (c : Change) (s e : ℕ) → removesAt c s ≡ true → referentOf bs s ≡ Found s e
-      → (q : ℕ) → missing (referentOf (kept c w bs) q) ≡ false → holds (block s e) q ≡ false
+      → (q : ℕ) → missing (referentOf (left c) q) ≡ false → holds (block s e) q ≡ false
   unfolding kept
   given-back (adds n) s e g h q k = absurd (false≢true g)
   given-back (removes p) s e g h q k = go (holds (block s e) q) refl
     where
       go : (u : Bool) → holds (block s e) q ≡ u → u ≡ false
       go true v =
-          let gone : referentOf (without s bs) q ≡ Missing = without-in proper s e q (whole proper s e s h q v) in
-          absurd (false≢true (sym k ∙ ap (λ (x : ℕ). missing (referentOf (without x bs) q)) (eqb-true p s g) ∙ ap missing gone))
+          let gone : referentOf (dropped s bs) q ≡ Missing = dropped-in proper s e q (whole proper s e s h q v) in
+          let rest : referentOf (left (removes p)) q ≡ referentOf (dropped s bs) q =
+          same-ranges q (ranges-without p (l .pairs) ∙ ap (λ (x : ℕ). dropped x bs) (eqb-true p s g)) in
+          absurd (false≢true (sym k ∙ ap missing (rest ∙ gone)))
       go false v = refl
+  given-back (relocks p k) s e g h q x = absurd (false≢true g)
   given-back keeps s e g h q k = absurd (false≢true g)
 
   -- a place in a block was in one before, unless the call stored there
   kept-live : {c : Call} → Changing c → (z : first (rules c w) ≡ 0) (i : ℕ)
       → (storeOf c z .at ≤ i → i < storeOf c z .at + storeOf c z .count → ⊥)
-      → missing (referentOf (kept (changeOf c) w bs) (base + i)) ≡ false → missing (referentOf bs (base + i)) ≡ false
+      → missing (referentOf (left (changeOf c)) (base + i)) ≡ false → missing (referentOf bs (base + i)) ≡ false
   unfolding kept store
-  kept-live (gets n) z i o k = ap missing (sym (added-out bs (added n) (base + i) (go (holds (added n) (base + i)) refl))) ∙ k
+  kept-live (gets n) z i o k =
+      ap missing (sym (same-ranges (base + i) (ranges-added (l .pairs) _) ∙ added-out bs (added n) (base + i) (go (holds (added n) (base + i)) refl))) ∙ k
     where
       go : (u : Bool) → holds (added n) (base + i) ≡ u → u ≡ false
       go true h =
@@ -113,7 +124,8 @@ module _ {t m : ℕ} (os : Orders t m) (l : Ledger) (proper : Proper t m (l .pai
           let hi = held-high (added n) (base + i) h in
           absurd (o (omega (arith, a .place)) (omega (arith, a .place)))
       go false h = refl
-  kept-live (gives-back p) z i o k = without-live proper p (base + i) k
+  kept-live (gives-back p) z i o k = dropped-live proper p (base + i) (ap missing (sym (same-ranges (base + i) (ranges-without p (l .pairs)))) ∙ k)
+  kept-live (sets-lock p x) z i o k = ap missing (sym (same-ranges (base + i) (ranges-relocked p x (l .pairs)))) ∙ k
   kept-live (keeps-all e) z i o k = rw e at k
 
   -- ---- the two arenas
@@ -155,6 +167,7 @@ module _ {t m : ℕ} (os : Orders t m) (l : Ledger) (proper : Proper t m (l .pai
     value-same (Left p) z r = refl
     value-same (Copy p q n) z r = refl
     value-same (Fill p v n) z r = refl
+    value-same (SetLock p x) z r = refl
 
     -- the bytes that it stores, at places outside b or once b was given back
     bytes-same : (c : Call) (z : first (rules c w) ≡ 0) → Quiet c → (j : ℕ) → j < storeOf c z .count
@@ -180,6 +193,7 @@ module _ {t m : ℕ} (os : Orders t m) (l : Ledger) (proper : Proper t m (l .pai
         (ap not (ap (holds b) (sym at) ∙ k g)))
         ∙ sym (taken a′)
     bytes-same (Fill p x n) z r j v k = refl
+    bytes-same (SetLock p x) z r j v k = refl
 
     outside-next : (c : Call) → first (rules c w) ≡ 0 → Quiet c → EqualOutside b (stored c w a) (stored c w a′)
     outside-next c z r =
@@ -191,12 +205,12 @@ module _ {t m : ℕ} (os : Orders t m) (l : Ledger) (proper : Proper t m (l .pai
         }
 
     standing-next : (c : Call) → first (rules c w) ≡ 0 → Quiet c
-        → Standing (given || givesBack (b .start) c (accepted (value c w a))) b (referentOf (kept (changeOf c) w bs)) (stored c w a) (stored c w a′)
+        → Standing (given || givesBack (b .start) c (accepted (value c w a))) b (referentOf (left (changeOf c))) (stored c w a) (stored c w a′)
     standing-next c z r = go given refl known (removesAt (changeOf c) (b .start)) refl
       where
         -- the number of an accepted give is 0, which leaves `&& true` of `givesBack`
         go : (g : Bool) → given ≡ g → Standing g b (referentOf bs) a a′ → (u : Bool) → removesAt (changeOf c) (b .start) ≡ u
-            → Standing (g || u && true) b (referentOf (kept (changeOf c) w bs)) (stored c w a) (stored c w a′)
+            → Standing (g || u && true) b (referentOf (left (changeOf c))) (stored c w a) (stored c w a′)
         go true e s u x =
             λ i k.
             stored-same (storeOf c z) a a′ size size′ i
@@ -204,5 +218,5 @@ module _ {t m : ℕ} (os : Orders t m) (l : Ledger) (proper : Proper t m (l .pai
         go false e s false x = kept-found (changeOf c) (b .start) (b .order) x s
         go false e s true x = λ i k. outside-next c z r .bytes i (given-back (changeOf c) (b .start) (b .order) x s (base + i) k)
 
-    pub on-both : (c : Call) → first (rules c w) ≡ 0 → Quiet c → OnBoth c w bs b a a′ given
+    pub on-both : (c : Call) → first (rules c w) ≡ 0 → Quiet c → OnBoth c w (l .pairs) b a a′ given
     on-both c z r = record { values = value-same c z r; outside = outside-next c z r; standing = standing-next c z r }

@@ -2,6 +2,7 @@
 pub mod Agreement
 pub mod Live
 pub mod Pairs
+pub mod Locks
 pub mod Tables
 pub mod Gets
 pub mod Stores

@@ -1,4 +1,4 @@
--- Request 5, "My hidden sound". Take two heaps with equal tables whose arenas differ at most inside one live block. For every list of the eight calls in
+-- Request 5, "My hidden sound". Take two heaps with equal tables whose arenas differ at most inside one live block. For every list of the ten calls in
 -- which, before the block is given back,
 --   by-bytes     no accepted read shows a byte of it and no accepted copy carries a byte out of it, or
 --   by-pointers  no read and no copy source lies in it,
@@ -16,7 +16,7 @@ use borrow.Author.Tests.{not-true}
 use Rattle.common.specs.Refusals.{first}
 use Rattle.blocks.specs.Blocks.{Block}
 use Rattle.blocks.specs.Tables.{referentIn}
-use Rattle.blocks.specs.Sets.{referentOf}
+use Rattle.blocks.specs.Sets.{ranges, referentOf}
 use Rattle.blocks.specs.Orders.{orderOf}
 use Rattle.blocks.specs.declared.Referent.{Referent}
 use Rattle.blocks.specs.declared.Referent.the-variants.{Found}
@@ -95,7 +95,7 @@ module _ (b : Block) (h k : Heap) (c : Call) where
       g : Agree t m h l
       g = sound-agree h s
 
-      found : (i : Heap) (j : Ledger) → Agree t m i j → referents t i ≡ referentOf (j .pairs)
+      found : (i : Heap) (j : Ledger) → Agree t m i j → referents t i ≡ referentOf (ranges (j .pairs))
       found i j e = ap (λ (u : View). u .referent) (view-same os i j e)
 
       w : View

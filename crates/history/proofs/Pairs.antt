@@ -1,5 +1,5 @@
--- The pairs of a ledger: aligned blocks that stand apart, and the referent that they give an address, with a pair taken away or added. By induction over the
--- list. t is the smallest order.
+-- The ranges of a ledger's pairs: aligned blocks that stand apart, and the referent that they give an address, with one taken away or added. By induction over
+-- the list. t is the smallest order.
 use Prim.Native.Nat.{ℕ, _+_, _-_, _*_, _^_, _≤_, _<_}
 use mathlib.Core.Path.{_≡_, refl, sym, _∙_, ap, subst}
 use mathlib.Core.Bool.{Bool, true, false, cond, false≢true}
@@ -8,13 +8,12 @@ use native.Mathlib.Omega.{arith}
 use lib.Dec.{eqb}
 use borrow.Author.Tests.{lt-ltb, le-leb, eqb-true, eqb-false}
 use Rattle.blocks.specs.Blocks.{base, Block, holds, Aligned, missing}
-use Rattle.blocks.specs.Sets.{referentOf, BlockSet}
+use Rattle.blocks.specs.Sets.{referentOf}
 use Rattle.blocks.specs.declared.Referent.{Referent}
 use Rattle.blocks.specs.declared.Referent.the-variants.{Missing, Found}
 use Rattle.common.proofs.Booleans.{and-both}
-use Rattle.blocks.proofs.Sets.{found-member, missing-none, member-found, referent-slot}
+use Rattle.blocks.proofs.Sets.{BlockSet, found-member, missing-none, member-found, referent-slot}
 use Rattle.blocks.proofs.Slots.{block, slotOf, Slots, held-slots}
-use Rattle.history.specs.Ledgers.{without}
 use Rattle.history.proofs.Agreement.{Proper, none, more}
 
 pub found-not-missing {ℓ} : {X : Type ℓ} {x : Referent} {s e : ℕ} → x ≡ Missing → x ≡ Found s e → X
@@ -23,14 +22,14 @@ found-not-missing p q = absurd (false≢true (sym (ap missing q) ∙ ap missing 
 pub holds-by : (b : Block) (q : ℕ) → b .start ≤ q → q < b .start + 2 ^ b .order → holds b q ≡ true
 holds-by b q x y = and-both (le-leb (b .start) q x) (lt-ltb q (b .start + 2 ^ b .order) y)
 
--- ---- the pairs are a set of blocks
+-- ---- the ranges are a set of blocks
 
 member-aligned : {t m : ℕ} {bs : List Block} → Proper t m bs → (b : Block) → List·Memᴰ b bs → Aligned t m b
 member-aligned {t} {m} (more a d p) b (List·Memᴰ·head e) = subst (Aligned t m) (sym e) a
 member-aligned (more a d p) b (List·Memᴰ·tail i) = member-aligned p b i
 
 -- a block that stands before c in the list holds none of c's addresses
-before-apart : {bs : List Block} {b c x : Block} (q : ℕ) → ((r : ℕ) → holds x r ≡ true → referentOf bs r ≡ Missing)
+pub before-apart : {bs : List Block} {b c x : Block} (q : ℕ) → ((r : ℕ) → holds x r ≡ true → referentOf bs r ≡ Missing)
     → b ≡ x → List·Memᴰ c bs → holds b q ≡ true → holds c q ≡ true → ⊥
 before-apart {bs} {b} {c} q d e i h k = false≢true (sym (missing-none bs q (d q (subst (λ (y : Block). holds y q ≡ true) e h)) c i) ∙ k)
 
@@ -70,63 +69,68 @@ free-slots {t} {m} {bs} p b z f q h =
 
 -- ---- a pair removed: its addresses have no referent, the others keep theirs
 
-without-none : {t m : ℕ} {bs : List Block} → Proper t m bs → (p q : ℕ) → referentOf bs q ≡ Missing → referentOf (without p bs) q ≡ Missing
-unfolding referentOf without
-without-none none p q h = refl
-without-none (more {b} {bs} a d r) p q h = go (without-none r p q) (eqb (b .start) p) (holds b q) refl h
+-- the ranges without the one that starts at s
+unfoldable pub dropped : ℕ → List Block → List Block
+dropped s [] = []
+dropped s (b ∷ bs) = cond (eqb (b .start) s) (dropped s bs) (b ∷ dropped s bs)
+
+dropped-none : {t m : ℕ} {bs : List Block} → Proper t m bs → (p q : ℕ) → referentOf bs q ≡ Missing → referentOf (dropped p bs) q ≡ Missing
+unfolding referentOf dropped
+dropped-none none p q h = refl
+dropped-none (more {b} {bs} a d r) p q h = go (dropped-none r p q) (eqb (b .start) p) (holds b q) refl h
   where
-    go : (referentOf bs q ≡ Missing → referentOf (without p bs) q ≡ Missing) → (u v : Bool) → holds b q ≡ v
+    go : (referentOf bs q ≡ Missing → referentOf (dropped p bs) q ≡ Missing) → (u v : Bool) → holds b q ≡ v
         → cond v (Found (b .start) (b .order)) (referentOf bs q) ≡ Missing
-        → referentOf (cond u (without p bs) (b ∷ without p bs)) q ≡ Missing
+        → referentOf (cond u (dropped p bs) (b ∷ dropped p bs)) q ≡ Missing
     go ih u true w k = found-not-missing k refl
     go ih true false w k = ih k
     go ih false false w k = rw w (ih k)
 
-pub without-in : {t m : ℕ} {bs : List Block} → Proper t m bs → (p e q : ℕ) → referentOf bs q ≡ Found p e → referentOf (without p bs) q ≡ Missing
-unfolding referentOf without
-without-in none p e q h = refl
-without-in (more {b} {bs} a d r) p e q h = go (without-in r p e q) (eqb (b .start) p) (holds b q) refl refl h
+pub dropped-in : {t m : ℕ} {bs : List Block} → Proper t m bs → (p e q : ℕ) → referentOf bs q ≡ Found p e → referentOf (dropped p bs) q ≡ Missing
+unfolding referentOf dropped
+dropped-in none p e q h = refl
+dropped-in (more {b} {bs} a d r) p e q h = go (dropped-in r p e q) (eqb (b .start) p) (holds b q) refl refl h
   where
-    go : (referentOf bs q ≡ Found p e → referentOf (without p bs) q ≡ Missing) → (u v : Bool) → eqb (b .start) p ≡ u → holds b q ≡ v
+    go : (referentOf bs q ≡ Found p e → referentOf (dropped p bs) q ≡ Missing) → (u v : Bool) → eqb (b .start) p ≡ u → holds b q ≡ v
         → cond v (Found (b .start) (b .order)) (referentOf bs q) ≡ Found p e
-        → referentOf (cond u (without p bs) (b ∷ without p bs)) q ≡ Missing
-    go ih true true x w k = without-none r p q (d q w)
+        → referentOf (cond u (dropped p bs) (b ∷ dropped p bs)) q ≡ Missing
+    go ih true true x w k = dropped-none r p q (d q w)
     go ih false true x w k = let z : b .start ≡ p = cc in absurd (eqb-false (b .start) p x z)
     go ih true false x w k = ih k
     go ih false false x w k = rw w (ih k)
 
 -- an address that has a referent had one before
-pub without-live : {t m : ℕ} {bs : List Block} → Proper t m bs → (p q : ℕ) → missing (referentOf (without p bs) q) ≡ false → missing (referentOf bs q) ≡ false
-without-live {bs = bs} r p q k = go (referentOf bs q) refl
+pub dropped-live : {t m : ℕ} {bs : List Block} → Proper t m bs → (p q : ℕ) → missing (referentOf (dropped p bs) q) ≡ false → missing (referentOf bs q) ≡ false
+dropped-live {bs = bs} r p q k = go (referentOf bs q) refl
   where
     go : (x : Referent) → referentOf bs q ≡ x → missing x ≡ false
-    go Missing h = absurd (false≢true (sym k ∙ ap missing (without-none r p q h)))
+    go Missing h = absurd (false≢true (sym k ∙ ap missing (dropped-none r p q h)))
     go (Found s e) h = refl
 
 -- an address that no block which starts at p holds
-pub without-out : {t m : ℕ} {bs : List Block} → Proper t m bs → (p q : ℕ) → ((e : ℕ) → referentOf bs q ≡ Found p e → ⊥)
-    → referentOf (without p bs) q ≡ referentOf bs q
-unfolding referentOf without
-without-out none p q h = refl
-without-out (more {b} {bs} a d r) p q h = go (without-out r p q) (eqb (b .start) p) (holds b q) refl refl h
+pub dropped-out : {t m : ℕ} {bs : List Block} → Proper t m bs → (p q : ℕ) → ((e : ℕ) → referentOf bs q ≡ Found p e → ⊥)
+    → referentOf (dropped p bs) q ≡ referentOf bs q
+unfolding referentOf dropped
+dropped-out none p q h = refl
+dropped-out (more {b} {bs} a d r) p q h = go (dropped-out r p q) (eqb (b .start) p) (holds b q) refl refl h
   where
-    go : (((e : ℕ) → referentOf bs q ≡ Found p e → ⊥) → referentOf (without p bs) q ≡ referentOf bs q) → (u v : Bool)
+    go : (((e : ℕ) → referentOf bs q ≡ Found p e → ⊥) → referentOf (dropped p bs) q ≡ referentOf bs q) → (u v : Bool)
         → eqb (b .start) p ≡ u → holds b q ≡ v
         → ((e : ℕ) → cond v (Found (b .start) (b .order)) (referentOf bs q) ≡ Found p e → ⊥)
-        → referentOf (cond u (without p bs) (b ∷ without p bs)) q ≡ cond v (Found (b .start) (b .order)) (referentOf bs q)
+        → referentOf (cond u (dropped p bs) (b ∷ dropped p bs)) q ≡ cond v (Found (b .start) (b .order)) (referentOf bs q)
     go ih true true x w k = absurd (k (b .order) (ap (λ (n : ℕ). Found n (b .order)) (eqb-true (b .start) p x)))
     go ih true false x w k = ih k
     go ih false true x w k = rw w
     go ih false false x w k = rw w (ih k)
 
-pub without-proper : {t m : ℕ} {bs : List Block} (p : ℕ) → Proper t m bs → Proper t m (without p bs)
-unfolding without
-without-proper p none = none
-without-proper {t} {m} p (more {b} {bs} a d r) = go (without-proper p r) (eqb (b .start) p)
+pub dropped-proper : {t m : ℕ} {bs : List Block} (p : ℕ) → Proper t m bs → Proper t m (dropped p bs)
+unfolding dropped
+dropped-proper p none = none
+dropped-proper {t} {m} p (more {b} {bs} a d r) = go (dropped-proper p r) (eqb (b .start) p)
   where
-    go : Proper t m (without p bs) → (u : Bool) → Proper t m (cond u (without p bs) (b ∷ without p bs))
+    go : Proper t m (dropped p bs) → (u : Bool) → Proper t m (cond u (dropped p bs) (b ∷ dropped p bs))
     go ih true = ih
-    go ih false = more a (λ q h. without-none r p q (d q h)) ih
+    go ih false = more a (λ q h. dropped-none r p q (d q h)) ih
 
 -- ---- a pair added at the end
 

@@ -13,6 +13,7 @@ use lib.Seq.{take-at, getD-at}
 use borrow.Author.Tests.{eqb-false, ne-eqb, ltb-false, le-ltb}
 use Rattle.common.specs.Refusals.{first}
 use Rattle.blocks.specs.Blocks.{base, Block, holds, Aligned, missing}
+use Rattle.blocks.specs.Sets.{ranges}
 use Rattle.blocks.specs.Placing.{allFree, rangeStart, freeRange, placeIn}
 use Rattle.blocks.specs.declared.Place.{Place}
 use Rattle.blocks.specs.declared.Place.the-variants.{At, Nothing}
@@ -28,7 +29,7 @@ use Rattle.heap.specs.Effects.{Outcome}
 use Rattle.heap.specs.Changes.{changeOf}
 use Rattle.heap.specs.declared.Answer.{Answer}
 use Rattle.heap.specs.declared.Call.{Call}
-use Rattle.heap.specs.declared.Call.the-variants.{Get, Give, Step, Read, Write, Left, Copy, Fill}
+use Rattle.heap.specs.declared.Call.the-variants.{Get, Give, Step, Read, Write, Left, Copy, Fill, SetLock}
 use Rattle.history.specs.Ledgers.{Ledger, ledgerView, ledgerStep, emptyLedger}
 use Rattle.history.specs.CallLists.{Run, run}
 use Rattle.history.specs.Histories.{liveBy, FreeByHistory, Starved, StarvedGet}
@@ -67,11 +68,11 @@ module _ (t m : ℕ) (bs : List Block) where
 -- ---- the range that a get takes
 
 -- the block that an accepted get adds was free
-got-free : {t m : ℕ} → Orders t m → (l : Ledger) → Proper t m (l .pairs) → (n : ℕ) → first (rules (Get n) (ledgerView t m l)) ≡ 0
-    → FreeByHistory t m (l .pairs) (got t m l n)
+got-free : {t m : ℕ} → Orders t m → (l : Ledger) → Proper t m (ranges (l .pairs)) → (n : ℕ) → first (rules (Get n) (ledgerView t m l)) ≡ 0
+    → FreeByHistory t m (ranges (l .pairs)) (got t m l n)
 got-free os l proper n e =
     let p = got-placed os l proper n e in
-    record { aligned = p .aligned; unshared = λ b i q h k. false≢true (sym (missing-none (l .pairs) q (p .free q k) b i) ∙ h) }
+    record { aligned = p .aligned; unshared = λ b i q h k. false≢true (sym (missing-none (ranges (l .pairs)) q (p .free q k) b i) ∙ h) }
 
 -- ---- the number 21
 
@@ -84,16 +85,16 @@ step-number t m c l = settled-number (first (rules c (ledgerView t m l))) _ l _
 abbrev Tells : (t m : ℕ) → List Block → Call → ℕ → Type 0
 Tells t m live c n = let starved = StarvedGet t m live (changeOf c) in (n ≡ 21 → starved) × (starved → n ≡ 21)
 
-module _ {t m : ℕ} (os : Orders t m) (l : Ledger) (proper : Proper t m (l .pairs)) where
+module _ {t m : ℕ} (os : Orders t m) (l : Ledger) (proper : Proper t m (ranges (l .pairs))) where
   abbrev w : View
   w = ledgerView t m l
 
-  full-starved : (n : ℕ) → first (rules (Get n) w) ≡ 21 → Starved t m (l .pairs) n
+  full-starved : (n : ℕ) → first (rules (Get n) w) ≡ 21 → Starved t m (ranges (l .pairs)) n
   unfolding rules argumentRules stateRules
   full-starved n e = go (eqb n 0 || ltb (2 ^ m) n) refl (placeFor n w) refl e
     where
       go : (u : Bool) → eqb n 0 || ltb (2 ^ m) n ≡ u → (x : Place) → placeFor n w ≡ x → cond {A = ℕ} u 10 (cond {A = ℕ} (noPlace x) 21 0) ≡ 21
-          → Starved t m (l .pairs) n
+          → Starved t m (ranges (l .pairs)) n
       go true a x b q = absurd (omega arith)
       go false a (At s k) b q = absurd (omega arith)
       go false a Nothing b q =
@@ -101,10 +102,10 @@ module _ {t m : ℕ} (os : Orders t m) (l : Ledger) (proper : Proper t m (l .pai
           record {
             some = omega arith;
             fits = ltb-false (2 ^ m) n (or-false-right (eqb n 0) _ a);
-            none = λ r f. unplaced t m (l .pairs) (neededFor n w) b r (f .aligned) (f .unshared);
+            none = λ r f. unplaced t m (ranges (l .pairs)) (neededFor n w) b r (f .aligned) (f .unshared);
           }
 
-  starved-full : (n : ℕ) → Starved t m (l .pairs) n → first (rules (Get n) w) ≡ 21
+  starved-full : (n : ℕ) → Starved t m (ranges (l .pairs)) n → first (rules (Get n) w) ≡ 21
   unfolding rules argumentRules stateRules
   starved-full n s = go (noPlace (placeFor n w)) (rw (ne-eqb n 0 (λ e. omega (arith, s .some)), le-ltb (2 ^ m) n (s .fits)))
     where
@@ -113,7 +114,7 @@ module _ {t m : ℕ} (os : Orders t m) (l : Ledger) (proper : Proper t m (l .pai
       go false e = absurd (s .none _ (got-free os l proper n e) (le-refl _))
 
   -- by the rules of each call
-  starved-by-rules : (c : Call) → Tells t m (l .pairs) c (first (rules c w))
+  starved-by-rules : (c : Call) → Tells t m (ranges (l .pairs)) c (first (rules c w))
   unfolding rules argumentRules stateRules
   starved-by-rules (Get n) = (full-starved n, starved-full n)
   starved-by-rules (Give p) = (not-given 20 (rules (Give p) w) refl, λ x. absurd x)
@@ -123,10 +124,11 @@ module _ {t m : ℕ} (os : Orders t m) (l : Ledger) (proper : Proper t m (l .pai
   starved-by-rules (Left p) = (not-given 20 (rules (Left p) w) refl, λ x. absurd x)
   starved-by-rules (Copy p q n) = (not-given 20 (rules (Copy p q n) w) refl, λ x. absurd x)
   starved-by-rules (Fill p v n) = (not-given 20 (rules (Fill p v n) w) refl, λ x. absurd x)
+  starved-by-rules (SetLock p k) = (not-given 20 (rules (SetLock p k) w) refl, λ x. absurd x)
 
   -- 21 is the answer of exactly the starved gets
-  starved-number : (c : Call) → Tells t m (l .pairs) c (ledgerStep t m c l .answer .number)
-  starved-number c = subst (Tells t m (l .pairs) c) (sym (step-number t m c l)) (starved-by-rules c)
+  starved-number : (c : Call) → Tells t m (ranges (l .pairs)) c (ledgerStep t m c l .answer .number)
+  starved-number c = subst (Tells t m (ranges (l .pairs)) c) (sym (step-number t m c l)) (starved-by-rules c)
 
 -- ---- over a list of calls
 
@@ -161,12 +163,12 @@ abbrev ledgerOf : (t m : ℕ) → List Call → Run Ledger
 ledgerOf t m cs = run (ledgerStep t m) cs (emptyLedger m)
 
 pub room : {t m : ℕ} → Orders t m → (before later : List Call) (c : Call) (xs ys : List Answer) (x : Answer)
-    → Proper t m (ledgerOf t m before .last .pairs) → ledgerOf t m (before ++ (c ∷ later)) .answers ≡ xs ++ (x ∷ ys) → length xs ≡ length before
+    → Proper t m (ranges (ledgerOf t m before .last .pairs)) → ledgerOf t m (before ++ (c ∷ later)) .answers ≡ xs ++ (x ∷ ys) → length xs ≡ length before
     → Tells t m (liveBy t m before xs) c (x .number)
 room {t} {m} os before later c xs ys x proper split place =
     let l : Ledger = ledgerOf t m before .last in
     let own : x ≡ ledgerStep t m c l .answer = answer-at (ledgerStep t m) (emptyLedger m) before later c xs ys x split place in
     let told : xs ≡ ledgerOf t m before .answers = answers-before (ledgerStep t m) (emptyLedger m) before later c xs ys x split place in
-    let live : liveBy t m before xs ≡ l .pairs = ap (liveBy t m before) told ∙ lives t m before in
+    let live : liveBy t m before xs ≡ ranges (l .pairs) = ap (liveBy t m before) told ∙ lives t m before in
     subst (λ (y : Answer). Tells t m (liveBy t m before xs) c (y .number)) (sym own)
     (subst (λ (bs : List Block). Tells t m bs c (ledgerStep t m c l .answer .number)) (sym live) (starved-number os l proper c))

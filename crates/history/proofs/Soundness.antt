@@ -9,12 +9,12 @@ use native.Mathlib.Omega.{arith}
 use lib.Dec.{eqb}
 use lib.Pow.{pow-pos}
 use Rattle.blocks.specs.Blocks.{base, Block, holds}
-use Rattle.blocks.specs.Sets.{BlockSet, referentOf, blocksFrom, blocksOf}
+use Rattle.blocks.specs.Sets.{Pair, ranges, PairSet, referentOf, pairAt, pairsFrom, pairsOf}
+use Rattle.blocks.specs.Tables.{entryOrder}
 use Rattle.blocks.specs.declared.Referent.the-variants.{Missing}
 use Rattle.blocks.proofs.OneTable.{one-table}
 use Rattle.blocks.proofs.Reading.{read-out}
-use Rattle.blocks.proofs.Sets.{none-missing}
-use Rattle.blocks.proofs.Slots.{block}
+use Rattle.blocks.proofs.Sets.{Ranged, range-out, none-missing}
 use Rattle.heap.specs.Views.{slotOrder}
 use Rattle.heap.specs.Heaps.{Heap, heapView, heapStep, heapCall, freshIn}
 use Rattle.heap.specs.Inner.{Sound}
@@ -26,42 +26,44 @@ use Rattle.history.proofs.Simulation.{view-same, agree-sound, step-same
 use Rattle.history.proofs.CallLists.{fresh-agree}
 
 -- the blocks read after slot i start past it
-read-later : (t i : ℕ) (s : List ℕ) (b c : Block) → b .start ≡ base + i * 2 ^ t → List·Memᴰ c (blocksFrom t (suc i) s) → b ≡ c → ⊥
-read-later t i s b c e j q =
-    let r = read-out t c (suc i) s j in
-    let a : suc i + r .at ≡ i + suc (r .at) = rw (suc-add, add-suc) in
-    let p : (suc i + r .at) * 2 ^ t ≡ i * 2 ^ t + (r .at * 2 ^ t + 2 ^ t) =
-    ap (λ (x : ℕ). x * 2 ^ t) a ∙ add-mul i (suc (r .at)) (2 ^ t) ∙ ap (λ (x : ℕ). i * 2 ^ t + x) (suc-mul (r .at) (2 ^ t)) in
-    omega (arith, r .start, pow-pos t, ap (λ (x : Block). x .start) q)
+read-later : (t i : ℕ) (s : List ℕ) (p r : Pair) → p .block .start ≡ base + i * 2 ^ t → List·Memᴰ r (pairsFrom t (suc i) s) → p ≡ r → ⊥
+read-later t i s p r e j q =
+    let d = read-out t r (suc i) s j in
+    let a : suc i + d .at ≡ i + suc (d .at) = rw (suc-add, add-suc) in
+    let b : (suc i + d .at) * 2 ^ t ≡ i * 2 ^ t + (d .at * 2 ^ t + 2 ^ t) =
+    ap (λ (x : ℕ). x * 2 ^ t) a ∙ add-mul i (suc (d .at)) (2 ^ t) ∙ ap (λ (x : ℕ). i * 2 ^ t + x) (suc-mul (d .at) (2 ^ t)) in
+    omega (arith, d .start, pow-pos t, ap (λ (x : Pair). x .block .start) q)
 
 -- A table's blocks are read by rising starts, so no block comes twice, and each stands apart from those after it.
-reads-proper : (t m i : ℕ) (s : List ℕ) → BlockSet t m (blocksFrom t i s) → Proper t m (blocksFrom t i s)
-unfolding blocksFrom
+reads-proper : (t m i : ℕ) (s : List ℕ) → PairSet t m (pairsFrom t i s) → Proper t m (ranges (pairsFrom t i s))
+unfolding pairsFrom
 reads-proper t m i [] set = none
-reads-proper t m i (e ∷ s) set = go (not (eqb e 0) && eqb (i % 2 ^ (e - t)) 0) set (reads-proper t m (suc i) s)
+reads-proper t m i (x ∷ s) set = go (not (eqb x 0) && eqb (i % 2 ^ (entryOrder x - t)) 0) set (reads-proper t m (suc i) s)
   where
-    b : Block
-    b = block (base + i * 2 ^ t) e
+    p : Pair
+    p = pairAt t i x
 
-    rest : List Block
-    rest = blocksFrom t (suc i) s
+    rest : List Pair
+    rest = pairsFrom t (suc i) s
 
-    apart : BlockSet t m (b ∷ rest) → (q : ℕ) → holds b q ≡ true → referentOf rest q ≡ Missing
-    apart set q h = none-missing rest q (λ c j. unheld c j (holds c q) refl)
+    apart : PairSet t m (p ∷ rest) → (q : ℕ) → holds (p .block) q ≡ true → referentOf (ranges rest) q ≡ Missing
+    apart set q h = none-missing (ranges rest) q (λ c j. let r = range-out c rest j in unheld c r (holds c q) refl)
       where
-        unheld : (c : Block) → List·Memᴰ c rest → (u : Bool) → holds c q ≡ u → u ≡ false
-        unheld c j true k = absurd (read-later t i s b c refl j (set .apart b c (List·Memᴰ·head refl) (List·Memᴰ·tail j) q h k))
-        unheld c j false k = refl
+        unheld : (c : Block) → Ranged rest c → (u : Bool) → holds c q ≡ u → u ≡ false
+        unheld c r true k =
+            let held : holds (r .whose .block) q ≡ true = rw (r .is) k in
+            absurd (read-later t i s p (r .whose) refl (r .mem) (set .apart p (r .whose) (List·Memᴰ·head refl) (List·Memᴰ·tail (r .mem)) q h held))
+        unheld c r false k = refl
 
-    go : (u : Bool) → BlockSet t m (cond u (b ∷ rest) rest) → (BlockSet t m rest → Proper t m rest) → Proper t m (cond u (b ∷ rest) rest)
+    go : (u : Bool) → PairSet t m (cond u (p ∷ rest) rest) → (PairSet t m rest → Proper t m (ranges rest)) → Proper t m (ranges (cond u (p ∷ rest) rest))
     go true set ih =
-        more (set .aligned b (List·Memᴰ·head refl)) (apart set)
+        more (set .aligned p (List·Memᴰ·head refl)) (apart set)
         (ih (record { aligned = λ c j. set .aligned c (List·Memᴰ·tail j); apart = λ c d i j. set .apart c d (List·Memᴰ·tail i) (List·Memᴰ·tail j) }))
     go false set ih = ih set
 
 -- what a heap reads back as, in slots of 2 ^ t bytes
 abbrev pub readLedger : ℕ → Heap → Ledger
-readLedger t h = record { pairs = blocksOf t (h .table); bytes = h .arena }
+readLedger t h = record { pairs = pairsOf t (h .table); bytes = h .arena }
 
 abbrev pub SoundHeap : (t m : ℕ) → Heap → Type 0
 SoundHeap t m h = Sound t m (h .arena) (h .table)
@@ -72,7 +74,7 @@ module _ {t m : ℕ} (h : Heap) (s : SoundHeap t m h) where
 
   pub sound-agree : Agree t m h (readLedger t h)
   sound-agree =
-      let one = one-table t m (s .slot-low) (s .slot-high) in
+      let one = one-table t m (s .slot-low) (s .slot-high) (omega (arith, s .high)) in
       record {
         bytes = refl;
         size = s .size;

@@ -8,7 +8,7 @@ use native.Mathlib.Omega.{arith}
 use borrow.Author.Tests.{ltb-false}
 use Rattle.common.specs.Refusals.{first}
 use Rattle.blocks.specs.Blocks.{Block, holds}
-use Rattle.blocks.specs.Sets.{referentOf}
+use Rattle.blocks.specs.Sets.{ranges, referentOf}
 use Rattle.blocks.specs.Tables.{referentIn}
 use Rattle.blocks.specs.Pointers.{marked}
 use Rattle.blocks.specs.declared.Referent.the-variants.{Found}
@@ -22,7 +22,7 @@ use Rattle.heap.specs.Effects.{copyCount, value, stored, settled, accepted}
 use Rattle.heap.specs.Heaps.{Heap, heapOf, heapView, viewOf, entered, heapStep, heapCall}
 use Rattle.heap.specs.Changes.{changeOf}
 use Rattle.heap.specs.declared.Call.{Call}
-use Rattle.heap.specs.declared.Call.the-variants.{Get, Give, Step, Read, Write, Left, Copy, Fill}
+use Rattle.heap.specs.declared.Call.the-variants.{Get, Give, Step, Read, Write, Left, Copy, Fill, SetLock}
 use Rattle.common.proofs.Refusals.{clear}
 use Rattle.heap.proofs.Judging.{accepted-ready}
 use Rattle.history.specs.Ledgers.{Ledger, ledgerView}
@@ -41,9 +41,10 @@ refused-quiet b (Write p k v) n = refl
 refused-quiet b (Left p) n = refl
 refused-quiet b (Copy p q k) n = rw (eqb-suc n)
 refused-quiet b (Fill p v k) n = refl
+refused-quiet b (SetLock p k) n = refl
 
-module _ {t m : ℕ} (l : Ledger) (proper : Proper t m (l .pairs)) (b : Block)
-    (live : referentOf (l .pairs) (b .start) ≡ Found (b .start) (b .order)) where
+module _ {t m : ℕ} (l : Ledger) (proper : Proper t m (ranges (l .pairs))) (b : Block)
+    (live : referentOf (ranges (l .pairs)) (b .start) ≡ Found (b .start) (b .order)) where
   abbrev w : View
   w = ledgerView t m l
 
@@ -56,8 +57,8 @@ module _ {t m : ℕ} (l : Ledger) (proper : Proper t m (l .pairs)) (b : Block)
 
       go : (u : Bool) → holds b (p + j) ≡ u → u ≡ false
       go true k =
-          let among = found-member (l .pairs) p (h .start) (h .order) (h .found) .mem in
-          let b-among = found-member (l .pairs) (b .start) (b .start) (b .order) live .mem in
+          let among = found-member (ranges (l .pairs)) p (h .start) (h .order) (h .found) .mem in
+          let b-among = found-member (ranges (l .pairs)) (b .start) (b .start) (b .order) live .mem in
           let one : c ≡ b = proper-set proper .apart c b among b-among (p + j) (home-holds l proper p h j v) k in
           absurd (false≢true (sym n ∙ subst (λ (d : Block). holds d p ≡ true) one (holds-by c p (h .low) (h .high))))
       go false k = refl
@@ -78,6 +79,7 @@ module _ {t m : ℕ} (l : Ledger) (proper : Proper t m (l .pairs)) (b : Block)
       let from = home l proper q (or-false-right (marked p) _ (c 13)) (or-false-right (dead w p) _ (c 22)) in
       any-false _ (copyCount w p q n) (λ j v. ap (λ (u : Bool). u && not (holds b (p + j))) (elsewhere q from e j (omega arith)))
   accepted-quiet (Fill p v n) a e z = refl
+  accepted-quiet (SetLock p k) a e z = refl
 
 -- a sound heap's blocks are the pairs that its table reads back as
 sound-quiet : {t m : ℕ} (b : Block) (h : Heap) → referentIn t (h .table) (b .start) ≡ Found (b .start) (b .order) → (c : Call) → SoundHeap t m h

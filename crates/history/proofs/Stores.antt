@@ -11,7 +11,7 @@ use Rattle.common.specs.Refusals.{first}
 use Rattle.common.specs.Bytes.{over, bytesOf, copied}
 use Rattle.common.proofs.Bytes.{over-none, length-over, length-bytesOf}
 use Rattle.blocks.specs.Blocks.{base, Block, holds, Aligned, missing, leftIn}
-use Rattle.blocks.specs.Sets.{referentOf}
+use Rattle.blocks.specs.Sets.{ranges, referentOf}
 use Rattle.blocks.specs.Pointers.{marked, sought}
 use Rattle.blocks.specs.declared.Referent.{Referent}
 use Rattle.blocks.specs.declared.Referent.the-variants.{Missing, Found}
@@ -22,7 +22,7 @@ use Rattle.heap.specs.Views.{View, referentOfPointer, leftFrom, neededFor, star
 use Rattle.heap.specs.Rules.{rules, argumentRules, stateRules, dead}
 use Rattle.heap.specs.Effects.{copyCount, fillCount, stored}
 use Rattle.heap.specs.declared.Call.{Call}
-use Rattle.heap.specs.declared.Call.the-variants.{Get, Give, Step, Read, Write, Left, Copy, Fill}
+use Rattle.heap.specs.declared.Call.the-variants.{Get, Give, Step, Read, Write, Left, Copy, Fill, SetLock}
 use Rattle.common.proofs.Refusals.{clear}
 use Rattle.history.specs.Ledgers.{Ledger, ledgerView}
 use Rattle.history.proofs.Agreement.{Proper, Orders}
@@ -45,9 +45,9 @@ store-nothing c w e =
 pub stored-length : {c : Call} {w : View} → Store c w → (b : List ℕ) → length b ≡ 2 ^ w .order → length (stored c w b) ≡ 2 ^ w .order
 stored-length s b e = ap length (s .stores b) ∙ length-over b (s .at) (s .bytes b) (omega (arith, s .fits, s .counted b e)) ∙ e
 
-module _ {t m : ℕ} (l : Ledger) (proper : Proper t m (l .pairs)) where
+module _ {t m : ℕ} (l : Ledger) (proper : Proper t m (ranges (l .pairs))) where
   abbrev bs : List Block
-  bs = l .pairs
+  bs = ranges (l .pairs)
 
   abbrev w : View
   w = ledgerView t m l
@@ -94,7 +94,7 @@ module _ {t m : ℕ} (l : Ledger) (proper : Proper t m (l .pairs)) where
   pub home-holds : (p : ℕ) (h : Home p) (j : ℕ) → j < leftFrom w p → holds (block (h .start) (h .order)) (p + j) ≡ true
   home-holds p h j v = holds-by (block (h .start) (h .order)) (p + j) (omega (arith, h .low)) (omega (arith, h .left))
 
-module _ {t m : ℕ} (os : Orders t m) (l : Ledger) (proper : Proper t m (l .pairs)) where
+module _ {t m : ℕ} (os : Orders t m) (l : Ledger) (proper : Proper t m (ranges (l .pairs))) where
   abbrev v : View
   v = ledgerView t m l
 
@@ -138,6 +138,7 @@ module _ {t m : ℕ} (os : Orders t m) (l : Ledger) (proper : Proper t m (l .pai
         counted = λ b e. length-take-le k (drop (q - base) b) (omega (arith, from, length-drop (q - base) b));
         stores = λ b. refl;
       }
+  store (SetLock p k) z = store-nothing (SetLock p k) v (λ b. refl)
   store (Fill p x n) z =
       let c = clear (rules (Fill p x n) v) refl z in
       let k : ℕ = fillCount v p n in

@@ -6,7 +6,7 @@ use mathlib.Core.List.{List, _∷_, _++_, List·Memᴰ}
 use lib.IntN.{pos}
 use lib.ListN.{length, getD}
 use Rattle.blocks.specs.Blocks.{Block, holds}
-use Rattle.blocks.specs.Sets.{BlockSet, tableOf}
+use Rattle.blocks.specs.Sets.{ranges, PairSet, tableOf}
 use Rattle.blocks.specs.Pointers.{markBit, exactSum, within, inReach}
 use Rattle.blocks.specs.declared.Referent.the-variants.{Found}
 use Rattle.heap.specs.Views.{slotOrder}
@@ -40,11 +40,11 @@ pub record Demand3 (m : ℕ) (cs : List Call) : Type 0 where
   -- all numbers and values, in the calls' order, and all arena bytes equal the ledger's
   pub answers : answersOf m cs ≡ ledgerRun m cs .answers
   pub bytes : after m cs .arena ≡ ledgerRun m cs .last .bytes
-  -- the table is the one table of its pairs
-  pub pairs : BlockSet slotOrder m (ledgerRun m cs .last .pairs)
+  -- the table is the one table of its pairs, with their locks
+  pub pairs : PairSet slotOrder m (ledgerRun m cs .last .pairs)
   pub table : after m cs .table ≡ tableOf slotOrder m (ledgerRun m cs .last .pairs)
   -- the starts and orders of the blocks live by the history are those of its pairs
-  pub lives : live m cs ≡ ledgerRun m cs .last .pairs
+  pub lives : live m cs ≡ ranges (ledgerRun m cs .last .pairs)
   -- from each address of a live block, the public check passes for exactly the steps whose exact sum lies in the block, and is never refused
   pub check : (b : Block) → List·Memᴰ b (live m cs) → (q : ℕ) → holds b q ≡ true → (i : ℕ)
       → heapCheck q i (after m cs) ≡ accepted (bit (within (Found (b .start) (b .order)) (exactSum q i)))

@@ -7,7 +7,7 @@ use mathlib.Core.List.{List, [], _∷_, List·Memᴰ}
 use lib.Dec.{eqb}
 use Rattle.blocks.specs.Blocks.{Block, holds, Aligned}
 use Rattle.blocks.specs.Orders.{neededOrder}
-use Rattle.heap.specs.Changes.{Change, adds, removes, keeps, changeOf}
+use Rattle.heap.specs.Changes.{Change, adds, removes, relocks, keeps, changeOf}
 use Rattle.heap.specs.declared.Answer.{Answer}
 use Rattle.heap.specs.declared.Call.{Call}
 
@@ -15,6 +15,7 @@ use Rattle.heap.specs.declared.Call.{Call}
 abbrev pub removesAt : Change → ℕ → Bool
 removesAt (adds n) s = false
 removesAt (removes p) s = eqb p s
+removesAt (relocks p l) s = false
 removesAt keeps s = false
 
 -- the call gives back the block that starts at s
@@ -32,6 +33,7 @@ abbrev pub gotThen : (t m : ℕ) → Change → Answer → Bool → List Block �
 gotThen t m (adds n) x given later =
     cond (eqb (x .number) 0) (cond given later (record { start = x .value; order = neededOrder t m n } ∷ later)) later
 gotThen t m (removes p) x given later = later
+gotThen t m (relocks p l) x given later = later
 gotThen t m keeps x given later = later
 
 -- The blocks live by the history, one for each accepted get whose start no later accepted give names, in the order of the gets.
@@ -55,4 +57,5 @@ pub record Starved (t m : ℕ) (live : List Block) (n : ℕ) : Type 0 where
 abbrev pub StarvedGet : (t m : ℕ) → List Block → Change → Type 0
 StarvedGet t m live (adds n) = Starved t m live n
 StarvedGet t m live (removes p) = ⊥
+StarvedGet t m live (relocks p l) = ⊥
 StarvedGet t m live keeps = ⊥

@@ -1,6 +1,6 @@
 -- A list of calls as bytes, and what `replay` makes of it and of the buffers that it is lent. The ledger alone says what comes out.
 use Prim.Native.Nat.{ℕ, zero, suc, _+_, _*_, _/_, _%_}
-use mathlib.Core.Bool.{Bool, false, not, cond, _||_}
+use mathlib.Core.Bool.{Bool, true, false, not, cond, _||_}
 use mathlib.Core.List.{List, [], _∷_}
 use lib.Dec.{ltb, eqb}
 use lib.ListN.{length, getD}
@@ -13,7 +13,7 @@ use Rattle.heap.specs.Heaps.{Heap, heapOf, viewOf}
 use Rattle.heap.specs.Answers.{answerLength, answersBytes}
 use Rattle.heap.specs.OperationNumbers.{isOperation}
 use Rattle.heap.specs.declared.Call.{Call}
-use Rattle.heap.specs.declared.Call.the-variants.{Get, Give, Step, Read, Write, Left, Copy, Fill}
+use Rattle.heap.specs.declared.Call.the-variants.{Get, Give, Step, Read, Write, Left, Copy, Fill, SetLock}
 use Rattle.history.specs.CallLists.{ledgerRun}
 
 -- a call takes 14 bytes: its operation as in a take, a byte x, and three big-endian numbers
@@ -29,7 +29,9 @@ callNamed op x a b c =
     (cond (eqb op 4) (Read a x)
     (cond (eqb op 5) (Write a x b)
     (cond (eqb op 6) (Left a)
-    (cond (eqb op 7) (Copy a b c) (Fill a x c)))))))
+    (cond (eqb op 7) (Copy a b c)
+    (cond (eqb op 8) (Fill a x c)
+    (cond (eqb op 9) (SetLock a true) (SetLock a false)))))))))
 
 unfoldable pub callAt : List ℕ → ℕ → Call
 callAt s at = callNamed (getD s at 0) (getD s (at + 1) 0) (bigEndian s (at + 2) 4) (bigEndian s (at + 6) 4) (bigEndian s (at + 10) 4)

@@ -31,11 +31,13 @@ fn call_at(s: &[u8], at: usize) -> Call
         5 => Call::Write(a, x, b),
         6 => Call::Left(a),
         7 => Call::Copy(a, b, c),
-        _ => Call::Fill(a, x, c),
+        8 => Call::Fill(a, x, c),
+        9 => Call::SetLock(a, true),
+        _ => Call::SetLock(a, false),
     }
 }
 
-// Whether a call has an operation that is none of the eight.
+// Whether a call has an operation that is none of the ten.
 fn any_unknown(calls: &[u8]) -> bool
     ensures { λ r. ⌜ r ≡ unknownFrom (now (calls .entry)) 0 (callCount (now (calls .entry))) ⌝ }
 {

@@ -4,7 +4,7 @@ use Prim.Native.Nat.{ℕ}
 use mathlib.Core.List.{List}
 use Rattle.common.specs.Bytes.{bigEndian, bytesOf, over, copied}
 use Rattle.blocks.specs.Blocks.{floor}
-use Rattle.blocks.specs.Tables.{any, entryOrder, torn, bad, damagedBy, referentIn}
+use Rattle.blocks.specs.Tables.{any, entryOrder, torn, bad, damagedBy, lockedIn, referentIn}
 use Rattle.blocks.specs.Pointers.{sought, signed, checkBits, within, inReach}
 use Rattle.blocks.specs.Orders.{orderOf, neededOrder}
 use Rattle.blocks.specs.Placing.{allFree, rangeStart, freeRange, maximal, lowest, atOrder, fromOrder, placeIn}
@@ -21,7 +21,7 @@ use Rattle.runner.specs.Decoding.{registersAfter}
 use Rattle.runner.specs.TakeRuns.{Carried, carryOut, runBy}
 
 unfoldable pub carried : List ℕ → Carried
-unfolding bigEndian bytesOf over copied floor any entryOrder torn bad damagedBy referentIn sought signed checkBits within inReach orderOf neededOrder allFree
-    rangeStart freeRange maximal lowest atOrder fromOrder placeIn argumentRules stateRules rules value stored insideByCheck entered heapStep heapCall
-    known kindsOf recordOf readRules readBytes walk headNumber fileNumber recordsOf registersAfter carryOut answersBytes runBy
+unfolding bigEndian bytesOf over copied floor any entryOrder torn bad damagedBy lockedIn referentIn sought signed checkBits within inReach orderOf
+    neededOrder allFree rangeStart freeRange maximal lowest atOrder fromOrder placeIn argumentRules stateRules rules value stored insideByCheck entered
+    heapStep heapCall known kindsOf recordOf readRules readBytes walk headNumber fileNumber recordsOf registersAfter carryOut answersBytes runBy
 carried file = carryOut (recordsOf file) (freshHeap (sizeByte file)) registersAtFirst

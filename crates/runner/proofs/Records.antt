@@ -1,4 +1,4 @@
--- Records carried out one at a time: the first, and then the rest on what it left. By the definition of `carryOut`, and the eight kinds of record.
+-- Records carried out one at a time: the first, and then the rest on what it left. By the definition of `carryOut`, and the ten kinds of record.
 use Prim.Native.Nat.{ℕ, _+_, _≤_, _<_}
 use mathlib.Core.Path.{_≡_, refl, sym, _∙_, ap, ap₂}
 use mathlib.Core.Bool.{Bool, true, false, cond}
@@ -16,7 +16,7 @@ use Rattle.takes.specs.Reading.{highRegister}
 use Rattle.takes.proofs.Fields.{low-field}
 use Rattle.takes.specs.declared.Record.{Record}
 use Rattle.takes.specs.declared.Record.the-variants.{Get as get, Give as give, Step as step, Read as read}
-use Rattle.takes.specs.declared.Record.the-variants.{Write as write, Left as left, Copy as copy, Fill as fill}
+use Rattle.takes.specs.declared.Record.the-variants.{Write as write, Left as left, Copy as copy, Fill as fill, Lock as lock, Unlock as unlock}
 use Rattle.heap.specs.Effects.{Outcome}
 use Rattle.heap.specs.Views.{slotOrder}
 use Rattle.heap.specs.Heaps.{Heap, heapOf, heapStep, heapCall, outcome}
@@ -55,6 +55,8 @@ low-registers (write a w v) h = (low-field (kindsOf 5) (fields (write a w v)) 0 
 low-registers (left d a) h = (low-field (kindsOf 6) (fields (left d a)) 1 h refl, omega arith)
 low-registers (copy d a b n) h = (low-field (kindsOf 7) (fields (copy d a b n)) 1 h refl, low-field (kindsOf 7) (fields (copy d a b n)) 2 h refl)
 low-registers (fill d a v n) h = (low-field (kindsOf 8) (fields (fill d a v n)) 1 h refl, omega arith)
+low-registers (lock a) h = (low-field (kindsOf 9) (fields (lock a)) 0 h refl, omega arith)
+low-registers (unlock a) h = (low-field (kindsOf 10) (fields (unlock a)) 0 h refl, omega arith)
 
 -- a value put in no register
 put-none : (rs : List ℕ) (v : ℕ) → length rs ≡ registerCount → set rs noRegister v ≡ rs

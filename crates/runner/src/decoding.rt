@@ -38,6 +38,16 @@ pub fn operands_of(item: Record) -> Operands
         Record::Left(d, a) => Operands { a, b: 0, d },
         Record::Copy(d, a, b, _) => Operands { a, b, d },
         Record::Fill(d, a, _, _) => Operands { a, b: 0, d },
+        Record::Lock(a) => Operands {
+            a,
+            b: 0,
+            d: NO_REGISTER,
+        },
+        Record::Unlock(a) => Operands {
+            a,
+            b: 0,
+            d: NO_REGISTER,
+        },
     }
 }
 
@@ -54,6 +64,8 @@ pub fn call_with(item: Record, p: u32, q: u32) -> Call
         Record::Left(_, _) => Call::Left(p),
         Record::Copy(_, _, _, n) => Call::Copy(p, q, n),
         Record::Fill(_, _, v, n) => Call::Fill(p, v, n),
+        Record::Lock(_) => Call::SetLock(p, true),
+        Record::Unlock(_) => Call::SetLock(p, false),
     }
 }
 

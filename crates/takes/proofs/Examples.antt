@@ -25,8 +25,8 @@ readings : List ℕ → List ℕ → List Given
 unfolding judged
 readings file = map (readAt file)
 
--- document 01's column of lengths
-lengths : map lengthOf (1 ∷ 2 ∷ 3 ∷ 4 ∷ 5 ∷ 6 ∷ 7 ∷ 8 ∷ []) ≡ 6 ∷ 2 ∷ 7 ∷ 4 ∷ 7 ∷ 3 ∷ 8 ∷ 8 ∷ []
+-- document 01's column of lengths, then those of lock and unlock
+lengths : map lengthOf (1 ∷ 2 ∷ 3 ∷ 4 ∷ 5 ∷ 6 ∷ 7 ∷ 8 ∷ 9 ∷ 10 ∷ []) ≡ 6 ∷ 2 ∷ 7 ∷ 4 ∷ 7 ∷ 3 ∷ 8 ∷ 8 ∷ 2 ∷ 2 ∷ []
 unfolding kindsOf
 lengths = refl
 
@@ -75,11 +75,11 @@ refused-heads = refl
 abbrev one : List ℕ → List ℕ
 one bytes = 1 ∷ 6 ∷ bytes
 
--- length 0; more than the bytes left; operation 9; length 7 of a get; register 16; a 7 before a 4 in the next record
+-- length 0; more than the bytes left; operation 255; length 7 of a get; register 16; a 7 before a 4 in the next record
 refused-records : numbers
     (one (0 ∷ [])
     ∷ one (2 ∷ 2 ∷ [])
-    ∷ one (2 ∷ 9 ∷ 0 ∷ [])
+    ∷ one (2 ∷ 255 ∷ 0 ∷ [])
     ∷ one (7 ∷ 1 ∷ 0 ∷ 0 ∷ 0 ∷ 0 ∷ 8 ∷ 0 ∷ [])
     ∷ one (2 ∷ 2 ∷ 16 ∷ [])
     ∷ one (2 ∷ 2 ∷ 16 ∷ 0 ∷ [])

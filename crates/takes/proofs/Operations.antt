@@ -43,7 +43,8 @@ within op = ltb 0 op && (ltb op rows && (leb (length (kindsOf op)) columns && lt
 pub in-table : (op : ℕ) → known op ≡ true → InTable op
 unfolding kindsOf
 in-table op h =
-    let a : within op ≡ true = every-operation (λ op. within op ≡ true) (refl, (refl, (refl, (refl, (refl, (refl, (refl, (refl, tt)))))))) op h in
+    let each : AllRows (λ op. within op ≡ true) operations = (refl, (refl, (refl, (refl, (refl, (refl, (refl, (refl, (refl, (refl, tt)))))))))) in
+    let a : within op ≡ true = every-operation (λ op. within op ≡ true) each op h in
     let b = and-right (ltb 0 op) (ltb op rows && (leb (length (kindsOf op)) columns && ltb (sizes (kindsOf op)) 255)) a in
     let d = and-right (ltb op rows) (leb (length (kindsOf op)) columns && ltb (sizes (kindsOf op)) 255) b in
     record {
@@ -63,9 +64,9 @@ tabulated-at g zero k h = absurd (not-suc-le-zero h)
 tabulated-at g (suc n) zero h = refl
 tabulated-at g (suc n) (suc k) h = tabulated-at (λ k. g (suc k)) n k (le-of-suc-le-suc h)
 
--- the code's table, which computes to the rows of the numbers below 9
+-- the code's table, which computes to the rows of the numbers below `rows`
 abbrev pub table : List ℕ
-table = 0 ∷ 0x31_06 ∷ 0x1_02 ∷ 0x311_07 ∷ 0x211_04 ∷ 0x321_07 ∷ 0x11_03 ∷ 0x3111_08 ∷ 0x3211_08 ∷ []
+table = 0 ∷ 0x31_06 ∷ 0x1_02 ∷ 0x311_07 ∷ 0x211_04 ∷ 0x321_07 ∷ 0x11_03 ∷ 0x3111_08 ∷ 0x3211_08 ∷ 0x1_02 ∷ 0x1_02 ∷ []
 
 pub rows-right : (op : ℕ) → op < rows → getD table op 0 ≡ rowOf op
 unfolding rowOf known kindsOf

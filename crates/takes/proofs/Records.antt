@@ -12,11 +12,11 @@ use borrow.Author.Tests.{lt-ltb, le-ltb}
 use Rattle.takes.specs.Operations.{Kind, known, kindsOf, sizes, lengthOf}
 use Rattle.takes.specs.Records.{operation, fields, recordOf}
 use Rattle.takes.specs.Reading.{values, highRegister}
-use Rattle.takes.specs.Inner.{byteAt, wordAt, getAt, giveAt, stepAt, readFieldsAt, writeAt, leftAt, copyAt, fillAt}
+use Rattle.takes.specs.Inner.{byteAt, wordAt, getAt, giveAt, stepAt, readFieldsAt, writeAt, leftAt, copyAt, fillAt, lockAt, unlockAt}
 use Rattle.takes.specs.Writing.{valueBytes, recordBytes, writeRecord}
 use Rattle.takes.specs.Inner.{columns, padded}
 use Rattle.takes.specs.declared.Record.{Record}
-use Rattle.takes.specs.declared.Record.the-variants.{Get, Give, Step, Read, Write, Left, Copy, Fill}
+use Rattle.takes.specs.declared.Record.the-variants.{Get, Give, Step, Read, Write, Left, Copy, Fill, Lock, Unlock}
 use Rattle.takes.proofs.Fields.{start, sizeOf, byte-is, word-is}
 
 -- A law for each operation: the record of its fields, which start at `at`, each taken from its own place in the file.
@@ -66,6 +66,14 @@ module _ (s : List ℕ) (at : ℕ) where
   unfolding recordOf kindsOf
   fill-is = rw (byte-here (kindsOf 8) refl, byte-from 1 (kindsOf 8) refl refl, byte-from 2 (kindsOf 8) refl refl, word-from 3 (kindsOf 8) refl refl)
 
+  pub lock-is : lockAt s at ≡ made 9
+  unfolding recordOf kindsOf
+  lock-is = rw (byte-here (kindsOf 9) refl)
+
+  pub unlock-is : unlockAt s at ≡ made 10
+  unfolding recordOf kindsOf
+  unlock-is = rw (byte-here (kindsOf 10) refl)
+
 pub record Sound (r : Record) : Type 0 where
   pub in-table : known (operation r) ≡ true
   pub bytes : length (valueBytes (kindsOf (operation r)) (fields r)) ≡ sizes (kindsOf (operation r))
@@ -83,9 +91,12 @@ sound (Write a w v) = record { in-table = refl; bytes = refl; columns = refl; pa
 sound (Left d a) = record { in-table = refl; bytes = refl; columns = refl; padded-high = refl; padded-bytes = refl }
 sound (Copy d a b n) = record { in-table = refl; bytes = refl; columns = refl; padded-high = refl; padded-bytes = refl }
 sound (Fill d a v n) = record { in-table = refl; bytes = refl; columns = refl; padded-high = refl; padded-bytes = refl }
+sound (Lock a) = record { in-table = refl; bytes = refl; columns = refl; padded-high = refl; padded-bytes = refl }
+sound (Unlock a) = record { in-table = refl; bytes = refl; columns = refl; padded-high = refl; padded-bytes = refl }
 
-pub taken-apart : {r s : Record} → r ≡ s → (operation s ≡ operation r) × (padded (fields s) ≡ padded (fields r))
-taken-apart e = (sym (ap operation e), sym (ap (λ (r : Record). padded (fields r)) e))
+-- what is made of the record s is made of r, which it is
+pub taken-apart : {r s : Record} {op : ℕ} {vs : List ℕ} → r ≡ s → (op ≡ operation s) × (vs ≡ padded (fields s)) → (op ≡ operation r) × (vs ≡ padded (fields r))
+taken-apart e t = (t .0 ∙ sym (ap operation e), t .1 ∙ sym (ap (λ (r : Record). padded (fields r)) e))
 
 -- The writer's returns, op and vs being the record taken apart.
 module _ (r : Record) (out : List ℕ) (op : ℕ) (vs : List ℕ) (taken : (op ≡ operation r) × (vs ≡ padded (fields r))) where

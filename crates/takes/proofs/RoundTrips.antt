@@ -16,7 +16,7 @@ use Rattle.takes.specs.Files.{Walk, before, walkFrom, headLength, headNu
 use Rattle.takes.specs.Writing.{valueBytes, recordBytes, recordsBytes, fileOf}
 use Rattle.takes.specs.RoundTrips.{RecordFits, RecordsFit, Bytes, RoundTrips}
 use Rattle.takes.specs.declared.Record.{Record}
-use Rattle.takes.specs.declared.Record.the-variants.{Get, Give, Step, Read, Write, Left, Copy, Fill}
+use Rattle.takes.specs.declared.Record.the-variants.{Get, Give, Step, Read, Write, Left, Copy, Fill, Lock, Unlock}
 use Rattle.takes.proofs.Operations.{every-operation}
 use Rattle.takes.proofs.Fields.{values-forth, fit-low, values-back}
 use Rattle.takes.proofs.Records.{sound}
@@ -37,6 +37,8 @@ remade (Write a w v) = (refl, refl)
 remade (Left d a) = (refl, refl)
 remade (Copy d a b n) = (refl, refl)
 remade (Fill d a v n) = (refl, refl)
+remade (Lock a) = (refl, refl)
+remade (Unlock a) = (refl, refl)
 
 -- the parts of a record that was made of a row's fields
 abbrev Parted : ℕ → Type 0
@@ -52,7 +54,10 @@ parted =
         λ bs. (refl, refl),
         (
           λ bs. (refl, refl),
-          (λ bs. (refl, refl), (λ bs. (refl, refl), (λ bs. (refl, refl), (λ bs. (refl, refl), (λ bs. (refl, refl), tt))))),
+          (
+            λ bs. (refl, refl),
+            (λ bs. (refl, refl), (λ bs. (refl, refl), (λ bs. (refl, refl), (λ bs. (refl, refl), (λ bs. (refl, refl), (λ bs. (refl, refl), tt)))))),
+          ),
         ),
       ),
     )

@@ -10,7 +10,7 @@ use Rattle.heap.specs.OperationNumbers.{lastOperation}
 use Rattle.heap.specs.Registers.{registerCount}
 use Rattle.takes.specs.Operations.{Kind, register, byte, word, known, kindsOf, lengthOf}
 use Rattle.takes.specs.declared.Record.{Record}
-use Rattle.takes.specs.declared.Record.the-variants.{Get, Give, Step, Read, Write, Left, Copy, Fill}
+use Rattle.takes.specs.declared.Record.the-variants.{Get, Give, Step, Read, Write, Left, Copy, Fill, Lock, Unlock}
 
 -- The table: one row more than there are operations, for the number 0, and the most fields that a row has
 abbrev pub rows : ℕ
@@ -75,3 +75,9 @@ copyAt file at = Copy (byteAt file at) (byteAt file (at + 1)) (byteAt file (at +
 
 abbrev pub fillAt : List ℕ → ℕ → Record
 fillAt file at = Fill (byteAt file at) (byteAt file (at + 1)) (byteAt file (at + 2)) (wordAt file (at + 3))
+
+abbrev pub lockAt : List ℕ → ℕ → Record
+lockAt file at = Lock (byteAt file at)
+
+abbrev pub unlockAt : List ℕ → ℕ → Record
+unlockAt file at = Unlock (byteAt file at)

@@ -30,6 +30,10 @@ operations =
     ∷ 7 has (register ∷ register ∷ register ∷ word ∷ [])
     -- fill d a v n
     ∷ 8 has (register ∷ register ∷ byte ∷ word ∷ [])
+    -- lock a
+    ∷ 9 has (register ∷ [])
+    -- unlock a
+    ∷ 10 has (register ∷ [])
     ∷ []
 
 abbrev pub knownIn : List Row → ℕ → Bool

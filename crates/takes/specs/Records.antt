@@ -5,7 +5,7 @@ use mathlib.Core.List.{List, [], _∷_}
 use lib.Dec.{eqb}
 use lib.ListN.{getD}
 use Rattle.takes.specs.declared.Record.{Record}
-use Rattle.takes.specs.declared.Record.the-variants.{Get, Give, Step, Read, Write, Left, Copy, Fill}
+use Rattle.takes.specs.declared.Record.the-variants.{Get, Give, Step, Read, Write, Left, Copy, Fill, Lock, Unlock}
 
 abbrev pub operation : Record → ℕ
 operation (Get d n) = 1
@@ -16,6 +16,8 @@ operation (Write a w v) = 5
 operation (Left d a) = 6
 operation (Copy d a b n) = 7
 operation (Fill d a v n) = 8
+operation (Lock a) = 9
+operation (Unlock a) = 10
 
 abbrev pub fields : Record → List ℕ
 fields (Get d n) = d ∷ n ∷ []
@@ -26,6 +28,8 @@ fields (Write a w v) = a ∷ w ∷ v ∷ []
 fields (Left d a) = d ∷ a ∷ []
 fields (Copy d a b n) = d ∷ a ∷ b ∷ n ∷ []
 fields (Fill d a v n) = d ∷ a ∷ v ∷ n ∷ []
+fields (Lock a) = a ∷ []
+fields (Unlock a) = a ∷ []
 
 -- the record of an operation of the table, x k being its field k
 abbrev pub build : ℕ → (ℕ → ℕ) → Record
@@ -36,7 +40,9 @@ build op x =
     (cond (eqb op 4) (Read (x 0) (x 1) (x 2))
     (cond (eqb op 5) (Write (x 0) (x 1) (x 2))
     (cond (eqb op 6) (Left (x 0) (x 1))
-    (cond (eqb op 7) (Copy (x 0) (x 1) (x 2) (x 3)) (Fill (x 0) (x 1) (x 2) (x 3))))))))
+    (cond (eqb op 7) (Copy (x 0) (x 1) (x 2) (x 3))
+    (cond (eqb op 8) (Fill (x 0) (x 1) (x 2) (x 3))
+    (cond (eqb op 9) (Lock (x 0)) (Unlock (x 0))))))))))
 
 unfoldable pub recordOf : ℕ → List ℕ → Record
 recordOf op values = build op (λ k. getD values k 0)

@@ -21,6 +21,8 @@ pub enum Record {
     Left(u8, u8),
     Copy(u8, u8, u8, u32),
     Fill(u8, u8, u8, u32),
+    Lock(u8),
+    Unlock(u8),
 }
 
 // A record and the next place, or the number of a refusal.

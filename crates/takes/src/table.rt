@@ -37,6 +37,10 @@ const OPERATIONS: [u32; ROWS] = [
     0x3111_08,
     // fill d a v n
     0x3211_08,
+    // lock a
+    0x1_02,
+    // unlock a
+    0x1_02,
 ];
 
 // The row of an operation, 0 where the table has no such operation.

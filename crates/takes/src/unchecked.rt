@@ -9,7 +9,7 @@ ghost use lib.ListN.{length, drop};
 ghost use Rattle.takes.specs.Operations.{known, kindsOf, sizes};
 ghost use Rattle.takes.specs.Records.{recordOf};
 ghost use Rattle.takes.specs.Reading.{values, readAt};
-ghost use Rattle.takes.specs.Inner.{getAt, giveAt, stepAt, readFieldsAt, writeAt, leftAt, copyAt, fillAt};
+ghost use Rattle.takes.specs.Inner.{getAt, giveAt, stepAt, readFieldsAt, writeAt, leftAt, copyAt, fillAt, lockAt, unlockAt};
 
 // Each operation's record from the bytes of its fields, which start at `at`: every field is taken straight from its place in the file.
 fn get_at(file: &[u8], at: usize) -> Record
@@ -78,6 +78,20 @@ fn fill_at(file: &[u8], at: usize) -> Record
     )
 }
 
+fn lock_at(file: &[u8], at: usize) -> Record
+    requires { ⌜ at + 1 ≤ length (now file) ⌝ }
+    ensures { λ r. ⌜ r ≡ lockAt (now (file .entry)) at ⌝ }
+{
+    Record::Lock(file[at])
+}
+
+fn unlock_at(file: &[u8], at: usize) -> Record
+    requires { ⌜ at + 1 ≤ length (now file) ⌝ }
+    ensures { λ r. ⌜ r ≡ unlockAt (now (file .entry)) at ⌝ }
+{
+    Record::Unlock(file[at])
+}
+
 // The record of any operation, from the place where its fields start.
 fn record_at(file: &[u8], at: usize, op: u8) -> Record
     requires { ⌜ known op ≡ true ⌝ }
@@ -92,7 +106,9 @@ fn record_at(file: &[u8], at: usize, op: u8) -> Record
         5 => write_at(file, at),
         6 => left_at(file, at),
         7 => copy_at(file, at),
-        _ => fill_at(file, at),
+        8 => fill_at(file, at),
+        9 => lock_at(file, at),
+        _ => unlock_at(file, at),
     }
 }
 

@@ -29,42 +29,26 @@ struct FieldValues {
     values: [u32; FIELDS],
 }
 
+fn field_values(op: u8, values: [u32; FIELDS]) -> FieldValues
+    ensures { λ p. ⌜ (p .op ≡ op) × (p .values ≡ values) ⌝ }
+{
+    FieldValues { op, values }
+}
+
 fn values_of(r: Record) -> FieldValues
     ensures { λ p. ⌜ (p .op ≡ operation r) × (p .values ≡ padded (fields r)) ⌝ }
 {
     match r {
-        Record::Get(d, n) => FieldValues {
-            op: 1,
-            values: [d as u32, n, 0, 0],
-        },
-        Record::Give(a) => FieldValues {
-            op: 2,
-            values: [a as u32, 0, 0, 0],
-        },
-        Record::Step(d, a, i) => FieldValues {
-            op: 3,
-            values: [d as u32, a as u32, i, 0],
-        },
-        Record::Read(d, a, w) => FieldValues {
-            op: 4,
-            values: [d as u32, a as u32, w as u32, 0],
-        },
-        Record::Write(a, w, v) => FieldValues {
-            op: 5,
-            values: [a as u32, w as u32, v, 0],
-        },
-        Record::Left(d, a) => FieldValues {
-            op: 6,
-            values: [d as u32, a as u32, 0, 0],
-        },
-        Record::Copy(d, a, b, n) => FieldValues {
-            op: 7,
-            values: [d as u32, a as u32, b as u32, n],
-        },
-        Record::Fill(d, a, v, n) => FieldValues {
-            op: 8,
-            values: [d as u32, a as u32, v as u32, n],
-        },
+        Record::Get(d, n) => field_values(1, [d as u32, n, 0, 0]),
+        Record::Give(a) => field_values(2, [a as u32, 0, 0, 0]),
+        Record::Step(d, a, i) => field_values(3, [d as u32, a as u32, i, 0]),
+        Record::Read(d, a, w) => field_values(4, [d as u32, a as u32, w as u32, 0]),
+        Record::Write(a, w, v) => field_values(5, [a as u32, w as u32, v, 0]),
+        Record::Left(d, a) => field_values(6, [d as u32, a as u32, 0, 0]),
+        Record::Copy(d, a, b, n) => field_values(7, [d as u32, a as u32, b as u32, n]),
+        Record::Fill(d, a, v, n) => field_values(8, [d as u32, a as u32, v as u32, n]),
+        Record::Lock(a) => field_values(9, [a as u32, 0, 0, 0]),
+        Record::Unlock(a) => field_values(10, [a as u32, 0, 0, 0]),
     }
 }
 

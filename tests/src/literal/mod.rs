@@ -5,7 +5,7 @@
 mod takes;
 
 use crate::call::Call;
-use crate::ledger::{damaged, first, sought, Ledger, Pair};
+use crate::ledger::{damaged, first, locked_by, order_of, sought, Block, Ledger, Pair};
 use crate::record::Record;
 use crate::subject::{Answer, Part, Place, Ran, Subject};
 
@@ -17,15 +17,15 @@ fn order(arena: &[u8], table: &[u8]) -> Option<u32> {
 }
 
 /// The ledger that a heap stands for; of a damaged table, one with no pair.
-fn ledger(arena: &[u8], table: &[u8], m: u32) -> Ledger {
+pub fn ledger(arena: &[u8], table: &[u8], m: u32) -> Ledger {
     let mut pairs = Vec::new();
     let mut slot = if damaged(table, m) { table.len() } else { 0 };
     while slot < table.len() {
-        let entry = u32::from(table[slot]);
-        if entry != 0 {
-            pairs.push(Pair { start: 65_536 + 16 * slot as i64, order: entry });
+        let (order, locked) = (order_of(table[slot]), locked_by(table[slot]));
+        if order != 0 {
+            pairs.push(Pair { block: Block { start: 65_536 + 16 * slot as i64, order }, locked });
         }
-        slot += if entry == 0 { 1 } else { 2usize.pow(entry - 4) };
+        slot += if order == 0 { 1 } else { 2usize.pow(order - 4) };
     }
     Ledger { m, pairs, bytes: arena.to_vec() }
 }
@@ -97,6 +97,14 @@ impl Subject for Literal {
 
     fn fill(arena: &mut [u8], table: &[u8], p: u32, v: u8, n: u32) -> Answer {
         made(Call::Fill { p, v, n }, arena, &mut table.to_vec())
+    }
+
+    fn lock(arena: &[u8], table: &mut [u8], p: u32) -> Answer {
+        made(Call::Lock { p }, &mut arena.to_vec(), table)
+    }
+
+    fn unlock(arena: &[u8], table: &mut [u8], p: u32) -> Answer {
+        made(Call::Unlock { p }, &mut arena.to_vec(), table)
     }
 
     fn check(arena: &[u8], table: &[u8], h: u32, i: u32) -> Answer {
@@ -186,7 +194,7 @@ impl Subject for Literal {
 }
 
 /// The call that a record makes, and the register that takes its value.
-fn call_of(record: Record, registers: &[u32; 16]) -> (Call, Option<u8>) {
+pub fn call_of(record: Record, registers: &[u32; 16]) -> (Call, Option<u8>) {
     let held = |r: u8| registers[usize::from(r)];
     match record {
         Record::Get { d, n } => (Call::Get { n }, Some(d)),
@@ -197,5 +205,7 @@ fn call_of(record: Record, registers: &[u32; 16]) -> (Call, Option<u8>) {
         Record::Left { d, a } => (Call::Left { p: held(a) }, Some(d)),
         Record::Copy { d, a, b, n } => (Call::Copy { p: held(a), q: held(b), n }, Some(d)),
         Record::Fill { d, a, v, n } => (Call::Fill { p: held(a), v, n }, Some(d)),
+        Record::Lock { a } => (Call::Lock { p: held(a) }, None),
+        Record::Unlock { a } => (Call::Unlock { p: held(a) }, None),
     }
 }

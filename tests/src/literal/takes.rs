@@ -1,10 +1,12 @@
-//! The file of a take, word for word: reader, judge and writer all go by the operation table as document 01 prints it.
+//! The file of a take, word for word: reader, judge and writer all go by the operation table as document 01 prints it,
+//! with the rows that document 02 adds.
 
 use crate::record::Record;
 use crate::subject::{Answer, Place};
 use std::sync::LazyLock;
 
-/// Document 01, "A take": operation, fields, length.
+/// Document 01, "A take": operation, fields, length. Request 7: "Operations 9 (lock) and 10 (unlock) have the field a,
+/// length 2".
 const PRINTED: &str = "
 | 1 get | d n | 6 |
 | 2 give | a | 2 |
@@ -14,6 +16,8 @@ const PRINTED: &str = "
 | 6 left | d a | 3 |
 | 7 copy | d a b n | 8 |
 | 8 fill | d a v n | 8 |
+| 9 lock | a | 2 |
+| 10 unlock | a | 2 |
 ";
 
 struct Row {
@@ -78,6 +82,8 @@ fn record_of(name: &str, fields: &Fields) -> Record {
         "left" => Record::Left { d: byte("d"), a: byte("a") },
         "copy" => Record::Copy { d: byte("d"), a: byte("a"), b: byte("b"), n: word("n") },
         "fill" => Record::Fill { d: byte("d"), a: byte("a"), v: byte("v"), n: word("n") },
+        "lock" => Record::Lock { a: byte("a") },
+        "unlock" => Record::Unlock { a: byte("a") },
         _ => panic!("no operation {name}"),
     }
 }
@@ -93,6 +99,8 @@ fn named(record: Record) -> (&'static str, Fields) {
         Record::Left { d, a } => ("left", vec![("d", byte(d)), ("a", byte(a))]),
         Record::Copy { d, a, b, n } => ("copy", vec![("d", byte(d)), ("a", byte(a)), ("b", byte(b)), ("n", n)]),
         Record::Fill { d, a, v, n } => ("fill", vec![("d", byte(d)), ("a", byte(a)), ("v", byte(v)), ("n", n)]),
+        Record::Lock { a } => ("lock", vec![("a", byte(a))]),
+        Record::Unlock { a } => ("unlock", vec![("a", byte(a))]),
     }
 }
 

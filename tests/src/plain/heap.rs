@@ -1,4 +1,4 @@
-//! fresh, the eight calls, check and show on lent buffers of any length and content.
+//! fresh, the ten calls, check and show on lent buffers of any length and content.
 //!
 //! Each call is written once, over `KNOWN`: whether its caller already knows that the lengths fit and
 //! that the table is undamaged. A direct call knows neither; a run knows both, since it made the heap.
@@ -9,6 +9,8 @@ use super::Refusal::{self, *};
 pub const BASE: u32 = 65_536;
 /// The top bit, which marks an out-of-bounds pointer.
 pub const MARK: u32 = 1 << 31;
+/// The top bit of a table entry, which locks the block. The other bits are its order.
+pub const LOCK: u8 = 1 << 7;
 /// How far from its block a marked pointer may lie.
 pub const REACH: usize = 8;
 const SLOT: usize = 16;
@@ -60,8 +62,13 @@ fn intact<const KNOWN: bool>(table: &[u8], m: u32) -> Result<(), Refusal> {
     }
 }
 
-/// Whether some entry is no order, or differs from another slot of its block. Each slot is looked at
-/// once: a slot that is reached inside its own aligned range was not covered from that range's start.
+/// The order that an entry says, with or without the lock.
+fn order_of(entry: u8) -> u32 {
+    u32::from(entry & !LOCK)
+}
+
+/// Whether some entry is no order, or differs from another slot of its block in order or lock. Each slot is
+/// looked at once: a slot that is reached inside its own aligned range was not covered from that range's start.
 pub fn damaged(table: &[u8], m: u32) -> bool {
     let mut slot = 0;
     while slot < table.len() {
@@ -70,7 +77,7 @@ pub fn damaged(table: &[u8], m: u32) -> bool {
             slot += 1;
             continue;
         }
-        let order = u32::from(entry);
+        let order = order_of(entry);
         if !(SLOT_ORDER..=m).contains(&order) {
             return true;
         }
@@ -90,7 +97,7 @@ fn block_at(table: &[u8], address: u32) -> Result<Block, Refusal> {
         None => Err(Outside),
         Some(0) => Err(FreeSlot),
         Some(&entry) => {
-            let order = u32::from(entry);
+            let order = order_of(entry);
             Ok(Block { start: offset >> order << order, order })
         }
     }
@@ -115,6 +122,15 @@ fn place(table: &[u8], p: u32) -> Result<(usize, usize), Refusal> {
     Ok((at, block.end() - at))
 }
 
+/// Judged last, so p has a referent, and its slot the entry of that block.
+fn unlocked(table: &[u8], p: u32) -> Result<(), Refusal> {
+    if table[(p - BASE) as usize / SLOT] & LOCK == 0 {
+        Ok(())
+    } else {
+        Err(Locked)
+    }
+}
+
 /// The places of a copy's two pointers: one outside the arena is told before one at a free slot, whichever it is.
 fn places(table: &[u8], p: u32, q: u32) -> Result<[(usize, usize); 2], Refusal> {
     match (place(table, p), place(table, q)) {
@@ -133,9 +149,8 @@ fn search(table: &[u8], order: u32) -> Option<usize> {
     let mut best: Option<(usize, usize)> = None;
     let mut slot = 0;
     while slot < table.len() {
-        let entry = u32::from(table[slot]);
-        if entry != 0 {
-            slot += 1 << (entry - SLOT_ORDER);
+        if table[slot] != 0 {
+            slot += 1 << (order_of(table[slot]) - SLOT_ORDER);
             continue;
         }
         let run = table[slot..].iter().take_while(|&&e| e == 0).count();
@@ -185,6 +200,7 @@ pub fn give<const KNOWN: bool>(arena: &[u8], table: &mut [u8], p: u32) -> Outcom
     if (p - BASE) as usize != block.start {
         return Err(NotTheStart);
     }
+    unlocked(table, p)?;
     table[block.start / SLOT..block.end() / SLOT].fill(0);
     Ok(0)
 }
@@ -242,6 +258,7 @@ pub fn write<const KNOWN: bool>(arena: &mut [u8], table: &[u8], p: u32, w: u8, v
     if w > left {
         return Err(PastTheEnd);
     }
+    unlocked(table, p)?;
     let place = &mut arena[at..at + w];
     match w {
         1 => place[0] = v as u8,
@@ -265,6 +282,7 @@ pub fn copy<const KNOWN: bool>(arena: &mut [u8], table: &[u8], p: u32, q: u32, n
     plain(q)?;
     intact::<KNOWN>(table, m)?;
     let [(to, room), (from, held)] = places(table, p, q)?;
+    unlocked(table, p)?;
     let count = room.min(held).min(n as usize);
     arena.copy_within(from..from + count, to);
     Ok(count as u32)
@@ -275,9 +293,28 @@ pub fn fill<const KNOWN: bool>(arena: &mut [u8], table: &[u8], p: u32, v: u8, n:
     plain(p)?;
     intact::<KNOWN>(table, m)?;
     let (at, left) = place(table, p)?;
+    unlocked(table, p)?;
     let count = left.min(n as usize);
     arena[at..at + count].fill(v);
     Ok(count as u32)
+}
+
+pub fn lock<const KNOWN: bool>(arena: &[u8], table: &mut [u8], p: u32) -> Outcome {
+    set_lock::<KNOWN>(arena, table, p, LOCK)
+}
+
+pub fn unlock<const KNOWN: bool>(arena: &[u8], table: &mut [u8], p: u32) -> Outcome {
+    set_lock::<KNOWN>(arena, table, p, 0)
+}
+
+/// Gives every slot of p's block its order again, with the bit or without it.
+fn set_lock<const KNOWN: bool>(arena: &[u8], table: &mut [u8], p: u32, bit: u8) -> Outcome {
+    let m = lengths::<KNOWN>(arena, table)?;
+    plain(p)?;
+    intact::<KNOWN>(table, m)?;
+    let block = block_at(table, p)?;
+    table[block.start / SLOT..block.end() / SLOT].fill(block.order as u8 | bit);
+    Ok(0)
 }
 
 /// 1 if the sum of h and i lies in h's block, by the xor of both, shifted right by the order.

@@ -31,6 +31,7 @@ pub enum Refusal {
     PastTheEnd = 25,
     TooManyRecords = 26,
     Outside = 27,
+    Locked = 28,
 }
 
 impl Refusal {

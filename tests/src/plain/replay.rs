@@ -12,7 +12,7 @@ pub fn replay(arena: &mut [u8], table: &mut [u8], calls: &[u8], out: &mut [u8]) 
     if !calls.len().is_multiple_of(CALL) {
         return Err(RecordLength);
     }
-    if calls.chunks_exact(CALL).any(|call| !(1..=8).contains(&call[0])) {
+    if calls.chunks_exact(CALL).any(|call| !(1..=10).contains(&call[0])) {
         return Err(Operation);
     }
     if !heap::lengths_fit(arena, table) {
@@ -46,6 +46,8 @@ fn make(call: &[u8], arena: &mut [u8], table: &mut [u8]) -> heap::Outcome {
         5 => heap::write::<true>(arena, table, a, x, b),
         6 => heap::left::<true>(arena, table, a),
         7 => heap::copy::<true>(arena, table, a, b, c),
-        _ => heap::fill::<true>(arena, table, a, x, c),
+        8 => heap::fill::<true>(arena, table, a, x, c),
+        9 => heap::lock::<true>(arena, table, a),
+        _ => heap::unlock::<true>(arena, table, a),
     }
 }

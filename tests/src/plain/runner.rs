@@ -75,6 +75,8 @@ fn carry_out(record: Record, registers: &mut [u32; REGISTERS], arena: &mut [u8],
         Record::Left { d, a } => (d, heap::left::<true>(arena, table, held(a))?),
         Record::Copy { d, a, b, n } => (d, heap::copy::<true>(arena, table, held(a), held(b), n)?),
         Record::Fill { d, a, v, n } => (d, heap::fill::<true>(arena, table, held(a), v, n)?),
+        Record::Lock { a } => return heap::lock::<true>(arena, table, held(a)),
+        Record::Unlock { a } => return heap::unlock::<true>(arena, table, held(a)),
     };
     registers[usize::from(d)] = value;
     Ok(value)

@@ -14,6 +14,7 @@ fn registers_good(record: Record) -> bool {
     let highest = match record {
         Record::Get { d, .. } => d,
         Record::Give { a } | Record::Write { a, .. } => a,
+        Record::Lock { a } | Record::Unlock { a } => a,
         Record::Step { d, a, .. } | Record::Read { d, a, .. } => d.max(a),
         Record::Left { d, a } | Record::Fill { d, a, .. } => d.max(a),
         Record::Copy { d, a, b, .. } => d.max(a).max(b),
@@ -40,7 +41,9 @@ pub fn read(file: &[u8], at: usize) -> Result<(Record, usize), Refusal> {
         [6, d, a] => Record::Left { d, a },
         [7, d, a, b, n0, n1, n2, n3] => Record::Copy { d, a, b, n: word(n0, n1, n2, n3) },
         [8, d, a, v, n0, n1, n2, n3] => Record::Fill { d, a, v, n: word(n0, n1, n2, n3) },
-        [1..=8, ..] => return Err(OperationLength),
+        [9, a] => Record::Lock { a },
+        [10, a] => Record::Unlock { a },
+        [1..=10, ..] => return Err(OperationLength),
         _ => return Err(Operation),
     };
     if registers_good(record) {
@@ -84,46 +87,26 @@ pub fn write(out: &mut [u8], record: Record) -> Result<usize, Refusal> {
     if !registers_good(record) {
         return Err(Register);
     }
-    let mut bytes = [0; 9];
-    let length = match record {
-        Record::Get { d, n } => {
-            bytes[1..3].copy_from_slice(&[1, d]);
-            bytes[3..7].copy_from_slice(&n.to_be_bytes());
-            6
-        }
-        Record::Give { a } => {
-            bytes[1..3].copy_from_slice(&[2, a]);
-            2
-        }
-        Record::Step { d, a, i } => {
-            bytes[1..4].copy_from_slice(&[3, d, a]);
-            bytes[4..8].copy_from_slice(&i.to_be_bytes());
-            7
-        }
-        Record::Read { d, a, w } => {
-            bytes[1..5].copy_from_slice(&[4, d, a, w]);
-            4
-        }
-        Record::Write { a, w, v } => {
-            bytes[1..4].copy_from_slice(&[5, a, w]);
-            bytes[4..8].copy_from_slice(&v.to_be_bytes());
-            7
-        }
-        Record::Left { d, a } => {
-            bytes[1..4].copy_from_slice(&[6, d, a]);
-            3
-        }
-        Record::Copy { d, a, b, n } => {
-            bytes[1..5].copy_from_slice(&[7, d, a, b]);
-            bytes[5..9].copy_from_slice(&n.to_be_bytes());
-            8
-        }
-        Record::Fill { d, a, v, n } => {
-            bytes[1..5].copy_from_slice(&[8, d, a, v]);
-            bytes[5..9].copy_from_slice(&n.to_be_bytes());
-            8
-        }
+    // the single bytes, how many of them the record has, and the word that follows them
+    let (head, count, word) = match record {
+        Record::Get { d, n } => ([1, d, 0, 0], 2, Some(n)),
+        Record::Give { a } => ([2, a, 0, 0], 2, None),
+        Record::Step { d, a, i } => ([3, d, a, 0], 3, Some(i)),
+        Record::Read { d, a, w } => ([4, d, a, w], 4, None),
+        Record::Write { a, w, v } => ([5, a, w, 0], 3, Some(v)),
+        Record::Left { d, a } => ([6, d, a, 0], 3, None),
+        Record::Copy { d, a, b, n } => ([7, d, a, b], 4, Some(n)),
+        Record::Fill { d, a, v, n } => ([8, d, a, v], 4, Some(n)),
+        Record::Lock { a } => ([9, a, 0, 0], 2, None),
+        Record::Unlock { a } => ([10, a, 0, 0], 2, None),
     };
+    let mut bytes = [0; 9];
+    let mut length = count;
+    bytes[1..5].copy_from_slice(&head);
+    if let Some(word) = word {
+        bytes[1 + count..5 + count].copy_from_slice(&word.to_be_bytes());
+        length += 4;
+    }
     bytes[0] = length as u8;
     store(out, &bytes[..=length])
 }

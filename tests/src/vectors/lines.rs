@@ -93,6 +93,8 @@ impl Heap {
             ("left", &[p]) => Call::Left { p },
             ("copy", &[p, q, n]) => Call::Copy { p, q, n },
             ("fill", &[p, v, n]) => Call::Fill { p, v: byte(v), n },
+            ("lock", &[p]) => Call::Lock { p },
+            ("unlock", &[p]) => Call::Unlock { p },
             _ => panic!("no such call: {operation} {arguments:?}"),
         };
         call.make::<S>(arena, table)

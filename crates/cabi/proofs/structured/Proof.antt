@@ -1,5 +1,6 @@
--- Each arm is told the operation's number (`record-is`); the last is told that it is none of those before, and the definition has a fill there too (`fill-is`).
-use Rattle.cabi.proofs.Flat.{record-is, fill-is}
+-- Each arm is told the operation's number (`record-is`); the last is told that it is none of those before, and the definition has an unlock there too
+-- (`unlock-is`).
+use Rattle.cabi.proofs.Flat.{record-is, unlock-is}
 use Rattle.cabi.proofs.structured.Statement.{statement}
 use Rattle.cabi.proofs.structured.Tie as tie
 
@@ -14,4 +15,6 @@ structured-spec =
     (λ c. record-is (c .before .args .f) 5 (c .match .keys5))
     (λ c. record-is (c .before .args .f) 6 (c .match .keys6))
     (λ c. record-is (c .before .args .f) 7 (c .match .keys7))
-    (λ c. fill-is (c .before .args .f) (c .match .rest)))
+    (λ c. record-is (c .before .args .f) 8 (c .match .keys8))
+    (λ c. record-is (c .before .args .f) 9 (c .match .keys9))
+    (λ c. unlock-is (c .before .args .f) (c .match .rest)))

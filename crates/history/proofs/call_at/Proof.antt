@@ -1,10 +1,10 @@
--- Each arm of the match makes the call of its operation, of the fields that are read before it (`read`); the last is a fill, since no other operation is left
--- (`fill-is`).
+-- Each arm of the match makes the call of its operation, of the fields that are read before it (`read`); the last is an unlock, since no other operation is
+-- left (`unlock-is`).
 use Prim.Native.Nat.{ℕ, _+_}
 use mathlib.Core.Path.{_≡_, refl, _∙_}
 use lib.ListN.{getD}
 use Rattle.history.specs.Replaying.{callNamed, callAt}
-use Rattle.history.proofs.Encoding.{call-is, fill-is}
+use Rattle.history.proofs.Encoding.{call-is, unlock-is}
 use borrow.Author.Needs.{needs}
 use Rattle.history.proofs.call_at.Statement.{statement}
 use Rattle.history.proofs.call_at.Tie as tie
@@ -69,11 +69,15 @@ returns-7 : tie.Need-returns-7
 returns-7 c = read (c .before) 7 (c .match .keys7)
 
 returns-8 : tie.Need-returns-8
-returns-8 c =
-    let n = c .match .rest in
-    fill-is _ _ _ (c .before .before .read-number2 .result) _ (n .0 .0 .0 .0 .0 .0 .1) (n .0 .0 .0 .0 .0 .1) (n .0 .0 .0 .0 .1) (n .0 .0 .0 .1)
-    (n .0 .0 .1) (n .0 .1) (n .1)
-    ∙ read (c .before) _ refl
+returns-8 c = read (c .before) 8 (c .match .keys8)
+
+returns-9 : tie.Need-returns-9
+returns-9 c = read (c .before) 9 (c .match .keys9)
+
+returns-10 : tie.Need-returns-10
+returns-10 c =
+    let r = c .before in
+    unlock-is _ _ _ (r .before .read-number2 .result) (r .read-number3 .result) (c .match .rest) ∙ read r _ refl
 
 pub call-at-spec : {M : Type 1} → statement M
 call-at-spec =
@@ -95,4 +99,6 @@ call-at-spec =
     returns-5
     returns-6
     returns-7
-    returns-8)
+    returns-8
+    returns-9
+    returns-10)

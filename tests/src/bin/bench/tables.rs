@@ -2,7 +2,7 @@
 
 use tulivombe_tests::call::Call;
 use tulivombe_tests::plain::heap::BASE;
-use tulivombe_tests::random::{sound_table, Rng};
+use tulivombe_tests::random::{unlocked_table, Rng};
 use tulivombe_tests::subject::Plain;
 
 /// The buffers of an arena.
@@ -59,17 +59,17 @@ fn blocks_of(order: u32, m: u32) -> Option<Heap> {
     (order <= m).then(|| Heap::with(vec![order as u8; 1 << (m - 4)]))
 }
 
-/// An undamaged, well filled heap with blocks of all orders.
+/// An undamaged, well filled heap with blocks of all orders. None is locked, which would refuse a call that is timed.
 pub fn settled(m: u32) -> Heap {
     let rng = &mut Rng::new(u64::from(m));
-    with_some_block(|| sound_table(rng, m))
+    with_some_block(|| unlocked_table(rng, m))
 }
 
 /// Blocks of orders 4 to 7 and free slots, at random: each part of 128 bytes has a table of its own.
 fn small_blocks(m: u32) -> Heap {
     let rng = &mut Rng::new(u64::from(m));
     let parts = 1 << (m.max(7) - 7);
-    with_some_block(|| (0..parts).flat_map(|_| sound_table(rng, m.min(7))).collect())
+    with_some_block(|| (0..parts).flat_map(|_| unlocked_table(rng, m.min(7))).collect())
 }
 
 fn with_some_block(mut draw: impl FnMut() -> Vec<u8>) -> Heap {

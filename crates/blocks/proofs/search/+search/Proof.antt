@@ -95,7 +95,7 @@ module _ (k : ℕ) (c : search-lts.Start (calls k) (search-at k) search′.Post)
   high : sought ≤ order
   high = c .pre .1 .2
 
--- where it has more than a row, with x the entry of its first slot
+-- where it has more than a row, with x the order in its first slot's entry
 module _ (k : ℕ) (c : search-lts.After-order-in (calls k) (search-at k) search′.Post) where
   abbrev wider : search-lts.Start (calls k) (search-at k) search′.Post
   wider = c .before .before .before .before

@@ -73,6 +73,12 @@ enum-known-c-7 c = search needs
 plain-requires-4 : tie.Need-plain-requires-4
 plain-requires-4 c κs = search needs
 
+enum-known-c-8 : tie.Need-enum-known-c-8
+enum-known-c-8 c = search needs
+
+plain-requires-5 : tie.Need-plain-requires-5
+plain-requires-5 c κs = search needs
+
 returns : tie.Need-returns
 returns c = let k : tie.After-c = c .before .before in found _ (k .c .given .1) (c .request .ensures)
 
@@ -114,9 +120,13 @@ returns-9 : tie.Need-returns-9
 unfolding argumentRules
 returns-9 c = let k : tie.After-c7 = c .before .before in found _ (k .c7 .given .1) (c .plain4 .ensures)
 
+returns-10 : tie.Need-returns-10
+unfolding argumentRules
+returns-10 c = let k : tie.After-c8 = c .before .before in found _ (k .c8 .given .1) (c .plain5 .ensures)
+
 pub arguments-spec : {M : Type 1} → statement M
 arguments-spec =
     tie.close
     (tie.spec enum-known-c request-requires enum-known-c-2 plain-requires enum-told enum-known-c-3 access-requires enum-known-c-4 access-requires-2
-    enum-known-c-5 plain-requires-2 enum-known-c-6 is-marked-requires plain-requires-3 enum-known-c-7 plain-requires-4 returns returns-2 returns-3
-    returns-4 returns-5 returns-6 returns-7 returns-8 returns-9)
+    enum-known-c-5 plain-requires-2 enum-known-c-6 is-marked-requires plain-requires-3 enum-known-c-7 plain-requires-4 enum-known-c-8 plain-requires-5
+    returns returns-2 returns-3 returns-4 returns-5 returns-6 returns-7 returns-8 returns-9 returns-10)

@@ -97,6 +97,12 @@ enum-known-c-8 c = search needs
 fill-requires : tie.Need-fill-requires
 fill-requires c κs = let arm : tie.After-c8 = c .before .before .before in ready (arm .before .before) _ (arm .c8 .given .1)
 
+enum-known-c-9 : tie.Need-enum-known-c-9
+enum-known-c-9 c = search needs
+
+set-lock-requires : tie.Need-set-lock-requires
+set-lock-requires c κs = let arm : tie.After-c9 = c .before .before .before in ready (arm .before .before) _ (arm .c9 .given .1)
+
 same-length : tie.Need-same-length
 same-length c = search needs
 
@@ -190,6 +196,18 @@ returns-9 c =
     let arm : tie.After-c8 = done .before .before .before .before in
     same (arm .before .before) _ (arm .c8 .given .1) _ (done .fill .ensures)
 
+same-length-17 : tie.Need-same-length-17
+same-length-17 c = search needs
+
+same-length-18 : tie.Need-same-length-18
+same-length-18 c = search needs
+
+returns-10 : tie.Need-returns-10
+returns-10 c =
+    let done : tie.After-set-lock = c .before .before in
+    let arm : tie.After-c9 = done .before .before .before .before in
+    same (arm .before .before) _ (arm .c9 .given .1) _ (done .set-lock .ensures)
+
 pub call-spec : {M : Type 1} → statement M
 call-spec =
     tie.close
@@ -213,6 +231,8 @@ call-spec =
     copy-requires
     enum-known-c-8
     fill-requires
+    enum-known-c-9
+    set-lock-requires
     same-length
     same-length-2
     returns-2
@@ -236,4 +256,7 @@ call-spec =
     returns-8
     same-length-15
     same-length-16
-    returns-9)
+    returns-9
+    same-length-17
+    same-length-18
+    returns-10)

@@ -1,12 +1,15 @@
--- Where `locate` finds no block for one of the two pointers, the greater number refuses the call (`both-refused`). Else as many bytes as the lesser part
--- holds lie in the arena at either place (`room`), and what is stored and answered is the call's outcome (`copy-done`).
+-- Where `locate` finds no block for one of the two pointers, the greater number refuses the call (`both-refused`). Where the first one's block is locked it is
+-- refused too (`locked-refused`). Else as many bytes as the lesser part holds lie in the arena at either place (`room`), and what is stored and answered is the
+-- call's outcome (`copy-done`).
 use Prim.Native.Nat.{ℕ, min, max}
 use mathlib.Core.Path.{_≡_, _∙_, sym, ap, ap₂}
+use mathlib.Core.Bool.{false}
 use mathlib.Core.List.{[]}
 use native.Mathlib.Omega.{arith}
 use borrow.Author.Needs.{needs}
 use Rattle.blocks.specs.Blocks.{leftIn}
 use Rattle.blocks.specs.Pointers.{marked}
+use Rattle.blocks.specs.Tables.{lockedIn}
 use Rattle.blocks.specs.declared.Referent.{Referent}
 use Rattle.blocks.specs.declared.Referent.the-variants.{Found}
 use Rattle.common.proofs.Booleans.{or-false-left, or-false-right}
@@ -16,7 +19,7 @@ use Rattle.heap.specs.Inner.{located, numberIn}
 use Rattle.heap.specs.declared.Call.the-variants.{Copy}
 use Rattle.heap.specs.declared.refusals.Located.{Located}
 use Rattle.heap.specs.declared.refusals.Located.the-variants.{Refused, Inside}
-use Rattle.heap.proofs.Accesses.{Led, led, left-asks, at-base, room, both-refused, copy-done}
+use Rattle.heap.proofs.Accesses.{Led, led, left-asks, at-base, room, locked-refused, both-refused, copy-last, copy-done}
 use Rattle.heap.proofs.unchecked.copy.Statement.{statement}
 use Rattle.heap.proofs.unchecked.copy.Tie as tie
 
@@ -70,10 +73,21 @@ module _ (c : tie.After-z) where
   to-source =
       led (entry at-s .pre) _ (c .before .before .locate3 .ensures) (or-false-right (marked (entry at-s .args .p)) _) (c .z .given .1)
 
+-- where the target's lock was found open
+module _ (c : tie.Else1) where
+  abbrev blocks : tie.After-z
+  blocks = c .before .before .before
+
+  unlocked : let a = entry (at-s blocks) .args in lockedIn (a .t) (a .table .now) (a .p) ≡ false
+  unlocked = sym (c .before .is-locked .ensures) ∙ c .if1 .left
+
 -- once the bytes are counted
 module _ (c : tie.After-least2) where
+  abbrev opened : tie.Else1
+  opened = c .before .before .before .before
+
   abbrev at-z : tie.After-z
-  at-z = c .before .before .before .before .before
+  at-z = blocks opened
 
   abbrev start : tie.Start
   start = entry (at-s at-z)
@@ -104,8 +118,8 @@ greatest-requires c κs = search needs
 refused-requires : tie.Need-refused-requires
 refused-requires c κs = search needs
 
-returns : tie.Need-returns
-returns c =
+returns-2 : tie.Need-returns-2
+returns-2 c =
     let number : tie.After-number-of = c .before .before in
     let k : tie.After-number = number .before .before .before in
     let s = origin k in
@@ -125,8 +139,8 @@ enum-known-other c = search needs
 refused-requires-2 : tie.Need-refused-requires-2
 refused-requires-2 c κs = search needs
 
-returns-2 : tie.Need-returns-2
-returns-2 c =
+returns-3 : tie.Need-returns-3
+returns-3 c =
     let k : tie.After-other = c .before .before in
     let s = entry (first k) in
     both-refused (s .pre) (omega (arith, ap numberIn (found (first k)), ap numberIn (refusal-2 k))) (s .args .q) _ (refusal-2 k) (omega arith)
@@ -135,11 +149,28 @@ returns-2 c =
 enum-known-z : tie.Need-enum-known-z
 enum-known-z c = search needs
 
+is-locked-requires : tie.Need-is-locked-requires
+is-locked-requires c κs =
+    let k : tie.After-z = c .before in
+    let s = entry (at-s k) .pre .sound in
+    omega (arith, s .slot-high, s .high)
+
+refused-requires-3 : tie.Need-refused-requires-3
+refused-requires-3 c κs = search needs
+
+returns : tie.Need-returns
+returns c =
+    let locked : tie.Then1 = c .before in
+    let k : tie.After-z = locked .before .before .before in
+    let s = entry (at-s k) in
+    locked-refused (to-target k) (copy-last (s .pre) (to-target k .found) (to-source k .found)) (sym (locked .before .is-locked .ensures) ∙ locked .if1 .taken)
+    (c .refused3 .ensures)
+
 left-in-requires : tie.Need-left-in-requires
-left-in-requires c κs = left-asks (to-target (c .before))
+left-in-requires c κs = left-asks (to-target (blocks c))
 
 left-in-requires-2 : tie.Need-left-in-requires-2
-left-in-requires-2 c κs = left-asks (to-source (c .before .before))
+left-in-requires-2 c κs = left-asks (to-source (blocks (c .before)))
 
 least-requires : tie.Need-least-requires
 least-requires c κs = search needs
@@ -169,17 +200,17 @@ accepted-requires c κs = search needs
 same-length : tie.Need-same-length
 same-length c = search needs
 
-returns-3 : tie.Need-returns-3
-returns-3 c =
+returns-4 : tie.Need-returns-4
+returns-4 c =
     let moved : tie.After-copy = c .before .before .before in
     let placed : tie.After-offset2 = moved .before in
     let k : tie.After-least2 = placed .before .before .before in
-    copy-done (to-target (at-z k)) (to-source (at-z k)) (counted k) (placed .before .offset .ensures) (placed .offset2 .ensures) (moved .copy .ensures)
-    (c .accepted .ensures)
+    copy-done (to-target (at-z k)) (to-source (at-z k)) (unlocked (opened k)) (counted k) (placed .before .offset .ensures) (placed .offset2 .ensures)
+    (moved .copy .ensures) (c .accepted .ensures)
 
 pub copy-spec : {M : Type 1} → statement M
 copy-spec =
     tie.close
     (tie.spec locate-requires enum-known-number locate-requires-2 number-of-requires greatest-requires refused-requires enum-known-s locate-requires-3
-    enum-known-other refused-requires-2 enum-known-z left-in-requires left-in-requires-2 least-requires least-requires-2 offset-requires
-    offset-requires-2 cast-copy copy-requires accepted-requires returns returns-2 same-length returns-3)
+    enum-known-other refused-requires-2 enum-known-z is-locked-requires refused-requires-3 returns left-in-requires left-in-requires-2 least-requires
+    least-requires-2 offset-requires offset-requires-2 cast-copy copy-requires accepted-requires returns-2 returns-3 same-length returns-4)

@@ -2,6 +2,7 @@
 -- bytes lie in the table and the arena (`get-slots`, `get-bytes`), and what is stored and answered is the call's outcome (`get-done`).
 use Prim.Native.Nat.{ℕ, _+_, _-_, _*_, _^_, _≤_}
 use mathlib.Core.Path.{_≡_, sym, _∙_, ap, ap₂}
+use mathlib.Core.Bool.{false}
 use native.Mathlib.Omega.{arith}
 use borrow.Author.Needs.{needs}
 use lib.ListN.{length, replicate}
@@ -61,7 +62,7 @@ module _ (c : tie.After-fill) where
   known = from place
 
   entries : let a = start place .args in
-      c .fill .last .0 ≡ over (a .table .now) (at place) (replicate (2 ^ (order known - a .t)) (entryOf (order known)))
+      c .fill .last .0 ≡ over (a .table .now) (at place) (replicate (2 ^ (order known - a .t)) (entryOf (order known) false))
   entries =
       c .fill .ensures
       ∙ ap₂ (λ (z x : ℕ). over (start place .args .table .now) (at place) (replicate z x)) (c .before .before .slots-of .ensures) (c .before .entry-of .ensures)

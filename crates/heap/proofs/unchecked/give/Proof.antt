@@ -1,12 +1,16 @@
 -- `locate` leads p to a number, which refuses the call (`led-refused`), or to a block. Where p is not the block's start the call is refused
--- (`give-inside`), and else the block's entries lie in the table (`give-slots`) and become 0 (`give-done`).
-use mathlib.Core.Path.{refl}
+-- (`give-inside`), where the block is locked too (`locked-refused`), and else its entries lie in the table (`block-slots`) and become 0 (`give-done`).
+use mathlib.Core.Path.{_≡_, refl, sym, _∙_, ap}
+use mathlib.Core.Bool.{false}
+use Prim.Native.Nat.{ℕ, _-_}
 use native.Mathlib.Omega.{arith}
 use borrow.Author.Needs.{needs}
+use Rattle.blocks.specs.Blocks.{base}
+use Rattle.blocks.specs.Tables.{lockedIn}
 use Rattle.heap.specs.Rules.{argumentRules, stateRules}
 use Rattle.heap.specs.declared.Call.the-variants.{Give}
-use Rattle.heap.proofs.Accesses.{Led, led-refused, led, at-base}
-use Rattle.heap.proofs.Placing.{give-inside, give-slots, give-done}
+use Rattle.heap.proofs.Accesses.{Led, led-refused, led, at-base, locked-refused}
+use Rattle.heap.proofs.Placing.{block-slots, give-inside, give-last, give-done}
 use Rattle.heap.proofs.unchecked.give.Statement.{statement}
 use Rattle.heap.proofs.unchecked.give.Tie as tie
 
@@ -22,9 +26,23 @@ module _ (c : tie.After-s) where
   unfolding argumentRules
   home = led (entry .pre) _ (c .before .before .locate .ensures) (λ h. h) (c .s .given .1)
 
--- once p is known to be the block's start
-abbrev at-block : tie.Else1 → tie.After-s
-at-block c = c .before .before
+-- once p is known to be the block's start, and the lock is asked for
+module _ (c : tie.After-is-locked) where
+  abbrev at-start : tie.Else1
+  at-start = c .before .before
+
+  abbrev at-block : tie.After-s
+  at-block = at-start .before .before
+
+  lock-of : let a = entry at-block .args in c .is-locked .result ≡ lockedIn (a .t) (a .table .now) (a .p)
+  lock-of = let a = entry at-block .args in c .is-locked .ensures ∙ ap (lockedIn (a .t) (a .table .now)) (at-start .if1 .left)
+
+-- and found open
+abbrev block : tie.Else2 → tie.After-s
+block c = at-block (c .before)
+
+unlocked : (c : tie.Else2) → let a = entry (block c) .args in lockedIn (a .t) (a .table .now) (a .p) ≡ false
+unlocked c = sym (lock-of (c .before)) ∙ c .if2 .left
 
 locate-requires : tie.Need-locate-requires
 locate-requires c κs = search needs
@@ -50,48 +68,69 @@ returns c =
     let k : tie.After-s = inside .before .before in
     give-inside (home k) (inside .if1 .taken) (c .refused2 .ensures)
 
-offset-requires : tie.Need-offset-requires
-offset-requires c κs = let start : tie.Else1 = c .before in at-base (home (at-block start))
-
-shr-fill : tie.Need-shr-fill
-shr-fill c =
-    let start : tie.Else1 = c .before .before in
-    let s = entry (at-block start) .pre .sound in
+is-locked-requires : tie.Need-is-locked-requires
+is-locked-requires c κs =
+    let start : tie.Else1 = c .before in
+    let s = entry (start .before .before) .pre .sound in
     omega (arith, s .slot-high, s .high)
 
-slots-of-requires : tie.Need-slots-of-requires
-slots-of-requires c κs =
-    let start : tie.Else1 = c .before .before in
-    let w = home (at-block start) .within in
-    (w .aligned .low, w .order)
-
-fill-requires : tie.Need-fill-requires
-fill-requires c κs =
-    let start : tie.Else1 = c .before .before .before in
-    give-slots (home (at-block start)) (start .if1 .left) (c .before .offset .ensures) (c .slots-of .ensures)
-
-accepted-requires : tie.Need-accepted-requires
-accepted-requires c κs = search needs
+refused-requires-3 : tie.Need-refused-requires-3
+refused-requires-3 c κs = search needs
 
 same-length-2 : tie.Need-same-length-2
 same-length-2 c = search needs
 
 returns-2 : tie.Need-returns-2
-unfolding stateRules
 returns-2 c =
-    let k : tie.After-number = c .before .before in
-    led-refused (at-refusal k .pre) _ (k .before .before .locate .ensures) _ refl (k .number .given .1) (c .refused .ensures)
+    let locked : tie.Then2 = c .before in
+    let k = locked .before in
+    locked-refused (home (at-block k)) (give-last (home (at-block k)) (at-start k .if1 .left)) (sym (lock-of k) ∙ locked .if2 .taken)
+    (c .refused3 .ensures)
+
+offset-requires : tie.Need-offset-requires
+offset-requires c κs = let opened : tie.Else2 = c .before in at-base (home (block opened))
+
+shr-fill : tie.Need-shr-fill
+shr-fill c =
+    let opened : tie.Else2 = c .before .before in
+    let s = entry (block opened) .pre .sound in
+    omega (arith, s .slot-high, s .high)
+
+slots-of-requires : tie.Need-slots-of-requires
+slots-of-requires c κs =
+    let opened : tie.Else2 = c .before .before in
+    let w = home (block opened) .within in
+    (w .aligned .low, w .order)
+
+fill-requires : tie.Need-fill-requires
+fill-requires c κs =
+    let opened : tie.Else2 = c .before .before .before in
+    let same = ap (λ (x : ℕ). x - base) (sym (at-start (opened .before) .if1 .left)) in
+    block-slots (home (block opened)) (c .before .offset .ensures ∙ same) (c .slots-of .ensures)
+
+accepted-requires : tie.Need-accepted-requires
+accepted-requires c κs = search needs
 
 same-length-3 : tie.Need-same-length-3
 same-length-3 c = search needs
 
 returns-3 : tie.Need-returns-3
+unfolding stateRules
 returns-3 c =
+    let k : tie.After-number = c .before .before in
+    led-refused (at-refusal k .pre) _ (k .before .before .locate .ensures) _ refl (k .number .given .1) (c .refused .ensures)
+
+same-length-4 : tie.Need-same-length-4
+same-length-4 c = search needs
+
+returns-4 : tie.Need-returns-4
+returns-4 c =
     let filled : tie.After-fill = c .before .before .before in
     let counted : tie.After-slots-of = filled .before in
     let placed : tie.After-offset = counted .before in
-    let start : tie.Else1 = placed .before .before in
-    give-done (home (at-block start)) (start .if1 .left) (placed .offset .ensures) (counted .slots-of .ensures) (filled .fill .ensures) (c .accepted .ensures)
+    let opened : tie.Else2 = placed .before .before in
+    give-done (home (block opened)) (at-start (opened .before) .if1 .left) (unlocked opened) (placed .offset .ensures) (counted .slots-of .ensures)
+    (filled .fill .ensures) (c .accepted .ensures)
 
 pub give-spec : {M : Type 1} → statement M
 give-spec =
@@ -104,12 +143,16 @@ give-spec =
     refused-requires-2
     same-length
     returns
+    is-locked-requires
+    refused-requires-3
+    same-length-2
+    returns-2
     offset-requires
     shr-fill
     slots-of-requires
     fill-requires
     accepted-requires
-    same-length-2
-    returns-2
     same-length-3
-    returns-3)
+    returns-3
+    same-length-4
+    returns-4)

@@ -46,7 +46,7 @@ returns : tie.Need-returns
 unfolding stateRules
 returns c =
     let k : tie.After-s = c .before .before .before .before in
-    short-refused (home k) _ refl (omega arith) (c .refused2 .ensures)
+    short-refused (home k) _ _ refl (omega arith) (c .refused2 .ensures)
 
 offset-requires : tie.Need-offset-requires
 offset-requires c κs = let k : tie.After-s = c .before .before .before in at-base (home k)

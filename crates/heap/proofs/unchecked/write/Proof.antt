@@ -1,11 +1,13 @@
 -- `locate` leads p to a number, which refuses the call (`led-refused`), or to a block. Where fewer bytes are left in it than the width the call is refused
--- (`short-refused`), and else they lie in the arena (`room`), and v is stored there (`write-done`).
-use mathlib.Core.Path.{refl}
+-- (`short-refused`), where it is locked too (`locked-refused`), and else they lie in the arena (`room`), and v is stored there (`write-done`).
+use mathlib.Core.Path.{_≡_, refl, sym, _∙_}
+use mathlib.Core.Bool.{false}
 use native.Mathlib.Omega.{arith}
 use borrow.Author.Needs.{needs}
+use Rattle.blocks.specs.Tables.{lockedIn}
 use Rattle.heap.specs.Rules.{argumentRules, stateRules}
 use Rattle.heap.specs.declared.Call.the-variants.{Write}
-use Rattle.heap.proofs.Accesses.{Led, led-refused, led, left-asks, at-base, room, narrow, short-refused, write-done}
+use Rattle.heap.proofs.Accesses.{Led, led-refused, led, left-asks, at-base, room, narrow, short-refused, long-first, locked-refused, write-done}
 use Rattle.heap.proofs.unchecked.write.Statement.{statement}
 use Rattle.heap.proofs.unchecked.write.Tie as tie
 
@@ -20,6 +22,18 @@ module _ (c : tie.After-s) where
   home : let a = entry .args in Led (a .t) (a .m) (Write (a .p) (a .w) (a .v)) (a .arena .now) (a .table .now) (a .p) (c .s .given .0 .0) (c .s .given .0 .1 .0)
   unfolding argumentRules
   home = led (entry .pre) _ (c .before .before .locate .ensures) (λ h. h) (c .s .given .1)
+
+-- once it is known to hold the bytes, and the lock is asked for
+module _ (c : tie.After-is-locked) where
+  abbrev at-block : tie.After-s
+  at-block = c .before .before .before .before
+
+-- and found open
+abbrev block : tie.Else2 → tie.After-s
+block c = at-block (c .before)
+
+unlocked : (c : tie.Else2) → let a = entry (block c) .args in lockedIn (a .t) (a .table .now) (a .p) ≡ false
+unlocked c = sym (c .before .is-locked .ensures) ∙ c .if2 .left
 
 locate-requires : tie.Need-locate-requires
 locate-requires c κs = search needs
@@ -46,35 +60,53 @@ returns : tie.Need-returns
 unfolding stateRules
 returns c =
     let k : tie.After-s = c .before .before .before .before in
-    short-refused (home k) _ refl (omega arith) (c .refused2 .ensures)
+    short-refused (home k) _ _ refl (omega arith) (c .refused2 .ensures)
+
+is-locked-requires : tie.Need-is-locked-requires
+is-locked-requires c κs =
+    let k : tie.After-s = c .before .before .before in
+    let s = entry k .pre .sound in
+    omega (arith, s .slot-high, s .high)
+
+refused-requires-3 : tie.Need-refused-requires-3
+refused-requires-3 c κs = search needs
+
+returns-2 : tie.Need-returns-2
+unfolding stateRules
+returns-2 c =
+    let locked : tie.Then2 = c .before in
+    let k = locked .before in
+    locked-refused (home (at-block k)) (long-first (home (at-block k)) _ _ refl (omega arith)) (sym (k .is-locked .ensures) ∙ locked .if2 .taken)
+    (c .refused3 .ensures)
 
 offset-requires : tie.Need-offset-requires
-offset-requires c κs = let k : tie.After-s = c .before .before .before .before in at-base (home k)
+offset-requires c κs = let opened : tie.Else2 = c .before in at-base (home (block opened))
 
 write-number-requires : tie.Need-write-number-requires
 unfolding argumentRules
 write-number-requires c κs =
-    let k : tie.After-s = c .before .before .before .before .before in
+    let opened : tie.Else2 = c .before .before in
+    let k = block opened in
     (narrow (entry k .pre) _ refl, room (home k) (c .offset .ensures) (entry k .args .w) (omega arith))
 
 accepted-requires : tie.Need-accepted-requires
 accepted-requires c κs = search needs
 
-returns-2 : tie.Need-returns-2
+returns-3 : tie.Need-returns-3
 unfolding stateRules
-returns-2 c =
+returns-3 c =
     let k : tie.After-number = c .before .before in
     led-refused (at-refusal k .pre) _ (k .before .before .locate .ensures) _ refl (k .number .given .1) (c .refused .ensures)
 
 same-length : tie.Need-same-length
 same-length c = search needs
 
-returns-3 : tie.Need-returns-3
-returns-3 c =
+returns-4 : tie.Need-returns-4
+returns-4 c =
     let put : tie.After-write-number = c .before .before .before in
     let placed : tie.After-offset = put .before in
-    let k : tie.After-s = placed .before .before .before .before .before in
-    write-done (placed .offset .ensures) (omega arith) (home k) (put .write-number .ensures) (c .accepted .ensures)
+    let opened : tie.Else2 = placed .before .before in
+    write-done (placed .offset .ensures) (omega arith) (home (block opened)) (unlocked opened) (put .write-number .ensures) (c .accepted .ensures)
 
 pub write-spec : {M : Type 1} → statement M
 write-spec =
@@ -88,9 +120,12 @@ write-spec =
     cast-if1
     refused-requires-2
     returns
+    is-locked-requires
+    refused-requires-3
+    returns-2
     offset-requires
     write-number-requires
     accepted-requires
-    returns-2
+    returns-3
     same-length
-    returns-3)
+    returns-4)

@@ -27,6 +27,12 @@ enum-known-item-5 c = search needs
 enum-known-item-6 : tie.Need-enum-known-item-6
 enum-known-item-6 c = search needs
 
+enum-told-3 : tie.Need-enum-told-3
+enum-told-3 c = search needs
+
+enum-told-4 : tie.Need-enum-told-4
+enum-told-4 c = search needs
+
 returns : tie.Need-returns
 returns c = rw (c .before .item .given .1)
 
@@ -51,6 +57,12 @@ returns-7 c = rw (c .before .item5 .given .1)
 returns-8 : tie.Need-returns-8
 returns-8 c = rw (c .before .item6 .given .1)
 
+returns-9 : tie.Need-returns-9
+returns-9 c = rw (c .enum-told3 .given .1)
+
+returns-10 : tie.Need-returns-10
+returns-10 c = rw (c .enum-told4 .given .1)
+
 pub call-with-spec : {M : Type 1} → statement M
 call-with-spec =
     tie.close
@@ -63,6 +75,8 @@ call-with-spec =
     enum-told-2
     enum-known-item-5
     enum-known-item-6
+    enum-told-3
+    enum-told-4
     returns
     returns-2
     returns-3
@@ -70,4 +84,6 @@ call-with-spec =
     returns-5
     returns-6
     returns-7
-    returns-8)
+    returns-8
+    returns-9
+    returns-10)

@@ -27,6 +27,12 @@ enum-known-item-7 c = search needs
 enum-known-item-8 : tie.Need-enum-known-item-8
 enum-known-item-8 c = search needs
 
+enum-known-item-9 : tie.Need-enum-known-item-9
+enum-known-item-9 c = search needs
+
+enum-known-item-10 : tie.Need-enum-known-item-10
+enum-known-item-10 c = search needs
+
 returns : tie.Need-returns
 returns c = rw (c .before .item .given .1)
 
@@ -51,6 +57,12 @@ returns-7 c = rw (c .before .item7 .given .1)
 returns-8 : tie.Need-returns-8
 returns-8 c = rw (c .before .item8 .given .1)
 
+returns-9 : tie.Need-returns-9
+returns-9 c = rw (c .before .item9 .given .1)
+
+returns-10 : tie.Need-returns-10
+returns-10 c = rw (c .before .item10 .given .1)
+
 pub operands-of-spec : {M : Type 1} → statement M
 operands-of-spec =
     tie.close
@@ -63,6 +75,8 @@ operands-of-spec =
     enum-known-item-6
     enum-known-item-7
     enum-known-item-8
+    enum-known-item-9
+    enum-known-item-10
     returns
     returns-2
     returns-3
@@ -70,4 +84,6 @@ operands-of-spec =
     returns-5
     returns-6
     returns-7
-    returns-8)
+    returns-8
+    returns-9
+    returns-10)
