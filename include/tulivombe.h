@@ -21,7 +21,8 @@
  *
  * Answers. `number` is 0 or says why the call was refused; a refused call has value 0 and changes
  * nothing. Where several reasons apply, the first of the call's list ("Refused: ..") is given, which need not be
- * the smallest number: 27 is judged before 22.
+ * the smallest number: 27 is judged before 22, and 13 after both. So of a marked pointer whose block is gone,
+ * that is told first.
  *
  * Locks. On a locked block write, fill, copy into it and give are refused 28, judged last. Anyone may unlock it: a
  * lock keeps a block from being edited or given back by accident, and no more (docs/MANUAL.md, "Locked blocks").
@@ -47,7 +48,8 @@ extern "C" {
 #define TULIVOMBE_ANSWER_LENGTH 5   /* bytes of an answer: number, then value big-endian */
 #define TULIVOMBE_CALL_LENGTH 14    /* bytes of a call in a replay */
 
-/* What `number` can say. 1 to 13 and 26 speak of the input, 20 to 25, 27 and 28 of the heap's state. */
+/* What `number` can say. 1 to 13 and 26 speak of the input, 20 to 25, 27 and 28 of the heap's state; a call's 13 is
+ * judged among the latter. */
 enum tulivombe_number {
     TULIVOMBE_OK = 0,
     TULIVOMBE_VERSION = 1,           /* file empty, or its first byte is not 01 */
@@ -62,7 +64,7 @@ enum tulivombe_number {
     TULIVOMBE_GET_SIZE = 10,         /* get: n is 0 or above the arena's length */
     TULIVOMBE_WIDTH = 11,            /* width not 1, 2 or 4 */
     TULIVOMBE_VALUE_TOO_WIDE = 12,   /* v does not fit w bytes */
-    TULIVOMBE_MARKED = 13,           /* marked pointer in any call but step */
+    TULIVOMBE_MARKED = 13,           /* marked pointer in any call but step, its block being there */
     TULIVOMBE_DAMAGED = 20,          /* the table stands for no set of blocks */
     TULIVOMBE_NO_FREE_RANGE = 21,    /* get: no free range is large enough */
     TULIVOMBE_FREE_SLOT = 22,        /* a pointer is sought at a free slot: its block is given back, or was never got */
@@ -126,7 +128,7 @@ tulivombe_answer tulivombe_fresh(uint8_t *arena, size_t arena_len, uint8_t *tabl
 tulivombe_answer tulivombe_get(uint8_t *arena, size_t arena_len, uint8_t *table, size_t table_len, uint32_t n);
 
 /* Gives the block that starts at p back. Its bytes stay as they are until a get makes a block of them or the heap
- * is made fresh, as by a run or a replay too. Refused: 8, 13, 20, 27, 22, 23, 28. Value: 0. */
+ * is made fresh, as by a run or a replay too. Refused: 8, 20, 27, 22, 13, 23, 28. Value: 0. */
 tulivombe_answer tulivombe_give(const uint8_t *arena, size_t arena_len, uint8_t *table, size_t table_len,
                                 uint32_t p);
 
@@ -135,47 +137,47 @@ tulivombe_answer tulivombe_give(const uint8_t *arena, size_t arena_len, uint8_t 
 tulivombe_answer tulivombe_step(const uint8_t *arena, size_t arena_len, const uint8_t *table, size_t table_len,
                                 uint32_t p, uint32_t i);
 
-/* Reads w bytes (1, 2 or 4) at p. Refused: 8, 11, 13, 20, 27, 22, 25. Value: the bytes as a big-endian number. */
+/* Reads w bytes (1, 2 or 4) at p. Refused: 8, 11, 20, 27, 22, 13, 25. Value: the bytes as a big-endian number. */
 tulivombe_answer tulivombe_read(const uint8_t *arena, size_t arena_len, const uint8_t *table, size_t table_len,
                                 uint32_t p, uint8_t w);
 
-/* Writes v as w bytes (1, 2 or 4), big-endian, at p. Refused: 8, 11, 12, 13, 20, 27, 22, 25, 28. Value: 0. */
+/* Writes v as w bytes (1, 2 or 4), big-endian, at p. Refused: 8, 11, 12, 20, 27, 22, 13, 25, 28. Value: 0. */
 tulivombe_answer tulivombe_write(uint8_t *arena, size_t arena_len, const uint8_t *table, size_t table_len,
                                  uint32_t p, uint8_t w, uint32_t v);
 
-/* Counts the bytes from p to the end of its block. Refused: 8, 13, 20, 27, 22. Value: the count. */
+/* Counts the bytes from p to the end of its block. Refused: 8, 20, 27, 22, 13. Value: the count. */
 tulivombe_answer tulivombe_left(const uint8_t *arena, size_t arena_len, const uint8_t *table, size_t table_len,
                                 uint32_t p);
 
 /* Copies up to n bytes from q to p, cut short at the end of either block. Where the two ranges overlap, as with
- * memmove, p gets what q's bytes were before the call. One marked pointer is enough for 13, then one outside the
- * arena for 27, then one at a free slot for 22, whichever of the two it is. p's block must not be locked, also if
- * n is 0; q's may be. Refused: 8, 13, 20, 27, 22, 28. Value: the count of bytes copied. */
+ * memmove, p gets what q's bytes were before the call. One pointer outside the arena is enough for 27, then one
+ * at a free slot for 22, then one that is marked for 13, whichever of the two it is. p's block must not be locked,
+ * also if n is 0; q's may be. Refused: 8, 20, 27, 22, 13, 28. Value: the count of bytes copied. */
 tulivombe_answer tulivombe_copy(uint8_t *arena, size_t arena_len, const uint8_t *table, size_t table_len,
                                 uint32_t p, uint32_t q, uint32_t n);
 
 /* Sets up to n bytes from p to v, cut short at the end of the block, which must not be locked, also if n is 0.
- * Refused: 8, 13, 20, 27, 22, 28. Value: the count of bytes set. */
+ * Refused: 8, 20, 27, 22, 13, 28. Value: the count of bytes set. */
 tulivombe_answer tulivombe_fill(uint8_t *arena, size_t arena_len, const uint8_t *table, size_t table_len,
                                 uint32_t p, uint8_t v, uint32_t n);
 
 /* Locks the block that holds p: until it is unlocked, write, fill, copy into it and give are refused. Making
- * the heap fresh asks for no lock. A second lock changes nothing. Refused: 8, 13, 20, 27, 22. Value: 0. */
+ * the heap fresh asks for no lock. A second lock changes nothing. Refused: 8, 20, 27, 22, 13. Value: 0. */
 tulivombe_answer tulivombe_lock(const uint8_t *arena, size_t arena_len, uint8_t *table, size_t table_len,
                                 uint32_t p);
 
-/* Unlocks the block that holds p. Where it is not locked, this changes nothing. Refused: 8, 13, 20, 27, 22.
+/* Unlocks the block that holds p. Where it is not locked, this changes nothing. Refused: 8, 20, 27, 22, 13.
  * Value: 0. */
 tulivombe_answer tulivombe_unlock(const uint8_t *arena, size_t arena_len, uint8_t *table, size_t table_len,
                                   uint32_t p);
 
 /* Checks whether the sum of h, a plain pointer, and i, signed in two's complement, lies in h's block.
- * Refused: 8, 13, 20, 27, 22. Value: 1 or 0. */
+ * Refused: 8, 20, 27, 22, 13. Value: 1 or 0. */
 tulivombe_answer tulivombe_check(const uint8_t *arena, size_t arena_len, const uint8_t *table, size_t table_len,
                                  uint32_t h, uint32_t i);
 
 /* Shows the bytes from p to the end of its block, without a copy: the part lies in the lent arena. Refused:
- * 8, 13, 20, 27, 22, as left is, and then the part is empty. */
+ * 8, 20, 27, 22, 13, as left is, and then the part is empty. */
 tulivombe_part tulivombe_show(const uint8_t *arena, size_t arena_len, const uint8_t *table, size_t table_len,
                               uint32_t p);
 

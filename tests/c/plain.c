@@ -178,14 +178,14 @@ plain_answer plain_give(const uint8_t *arena, size_t arena_len, uint8_t *table, 
     (void)arena;
     if (!lengths_fit(arena_len, table_len))
         return refused(LENGTHS);
-    if (p & MARK)
-        return refused(MARKED);
     if (damaged(table, table_len))
         return refused(DAMAGED);
     struct block block;
-    enum refusal missing = block_at(table, table_len, p, &block);
+    enum refusal missing = referent(table, table_len, p, &block);
     if (missing)
         return refused(missing);
+    if (p & MARK)
+        return refused(MARKED);
     if (p - BASE != block.start)
         return refused(NOT_THE_START);
     if (table[block.start / SLOT] & LOCK)
@@ -221,13 +221,13 @@ plain_answer plain_left(const uint8_t *arena, size_t arena_len, const uint8_t *t
     (void)arena;
     if (!lengths_fit(arena_len, table_len))
         return refused(LENGTHS);
-    if (p & MARK)
-        return refused(MARKED);
     if (damaged(table, table_len))
         return refused(DAMAGED);
     struct block block;
-    enum refusal missing = block_at(table, table_len, p, &block);
+    enum refusal missing = referent(table, table_len, p, &block);
     if (missing)
         return refused(missing);
+    if (p & MARK)
+        return refused(MARKED);
     return accepted(block.start + block.size - (p - BASE));
 }

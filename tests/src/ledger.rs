@@ -9,8 +9,8 @@ const BASE: i64 = 65_536;
 const MARK: u32 = 2_147_483_648;
 
 /// The numbers of the calls in the order in which they are judged: a refused call gives the first that applies. They
-/// rise, but 27 is "judged just before 22"; 28 is "judged last".
-pub const JUDGED: [u32; 13] = [8, 10, 11, 12, 13, 20, 21, 27, 22, 23, 24, 25, 28];
+/// rise, but 27 is "judged just before 22", and 13 "after 20, 27 and 22"; 28 is "judged last".
+pub const JUDGED: [u32; 13] = [8, 10, 11, 12, 20, 21, 27, 22, 13, 23, 24, 25, 28];
 
 /// Numbers that can refuse a call, each with whether it applies.
 pub type Refusals = Vec<(u32, bool)>;

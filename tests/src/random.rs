@@ -340,6 +340,34 @@ fn given_back(rng: &mut Rng, m: u32, registers: u32) -> [Record; 4] {
     ]
 }
 
+/// Records that leave a new block by a few bytes and give it back; then three with that marked pointer or the plain one.
+fn dead_and_marked(rng: &mut Rng, m: u32, registers: u32) -> [Record; 6] {
+    let [a, b, c] = [(); 3].map(|()| rng.below(registers) as u8);
+    [
+        Record::Get { d: a, n: rng.within(1, 16) },
+        Record::Step { d: b, a, i: rng.pick(&[8u32.wrapping_neg(), 1u32.wrapping_neg(), 16, 23]) },
+        Record::Give { a },
+        record_of(rng, m, c, b, a),
+        record_of(rng, m, c, a, b),
+        record_of(rng, m, c, b, c),
+    ]
+}
+
+/// Records that read a marked pointer out of a block, where a write left any number or one near the arena; then three
+/// with it or the block's.
+fn read_and_marked(rng: &mut Rng, m: u32, registers: u32) -> [Record; 6] {
+    let [a, b, c] = [(); 3].map(|()| rng.below(registers) as u8);
+    let (near, any) = (BASE - 24 + rng.below((1 << m) + 48), rng.word());
+    [
+        Record::Get { d: a, n: rng.within(4, 16) },
+        Record::Write { a, w: 4, v: MARK | rng.pick(&[near, near, any]) },
+        Record::Read { d: b, a, w: 4 },
+        record_of(rng, m, c, b, a),
+        record_of(rng, m, c, a, b),
+        record_of(rng, m, c, b, c),
+    ]
+}
+
 /// Records that lock a new block by an address of it, store into it and give it at its start and near its end; then
 /// mostly its unlocking, and one more.
 fn locked_block(rng: &mut Rng, m: u32, registers: u32) -> [Record; 8] {
@@ -369,6 +397,8 @@ pub fn file(rng: &mut Rng, m: u32, most: u32) -> Vec<u8> {
             1 => records.extend(end_of_a_block(rng, m, registers)),
             2 => records.extend(locked_block(rng, m, registers)),
             3 => records.extend(given_back(rng, m, registers)),
+            4 => records.extend(dead_and_marked(rng, m, registers)),
+            5 => records.extend(read_and_marked(rng, m, registers)),
             _ => records.push(record(rng, m, registers)),
         }
     }

@@ -1,5 +1,5 @@
 //! The refusals of each call, in judging order: the lists in the header and in the manual are those of the ledger. Also
-//! the manual's examples of a missing home and of a lock.
+//! the manual's examples of a missing home, of a marked pointer and of a lock.
 
 use std::collections::BTreeMap;
 use tulivombe_tests::call::Call;
@@ -59,6 +59,9 @@ fn the_manuals_lists_of_records() {
     assert_eq!(rows(1), can_refuse_records());
 }
 
+/// The numbers of the two kinds of missing home.
+const MISSING: [u32; 2] = [22, 27];
+
 /// A call of an example, in words and numbers.
 fn call(question: &str) -> Call {
     let words: Vec<&str> = question.split_whitespace().collect();
@@ -95,11 +98,26 @@ fn examples(heading: &str) -> Vec<(Call, Answer)> {
 #[test]
 fn the_manuals_examples_of_missing() {
     let mut met = BTreeMap::new();
-    for (call, answer) in examples("Pointers").into_iter().filter(|(_, answer)| [22, 27].contains(&answer.number)) {
+    for (call, answer) in examples("Pointers").into_iter().filter(|(_, answer)| MISSING.contains(&answer.number)) {
         assert_eq!(Ledger::new(6).feed(call), answer, "{call:?}");
         *met.entry((call.name(), answer.number)).or_default() += 1;
     }
-    assert_eq!(met, BTreeMap::from([(("left", 22), 2), (("left", 27), 2), (("step", 22), 1), (("step", 27), 2)]));
+    let steps = [(("step", 22), 1), (("step", 27), 2)];
+    let others = [(("give", 27), 1), (("left", 22), 3), (("left", 27), 2)];
+    assert_eq!(met, steps.into_iter().chain(others).collect());
+}
+
+/// The other examples of pointers speak of a block of 32 bytes.
+#[test]
+fn the_manuals_examples_of_marks() {
+    let mut ledger = Ledger::new(6);
+    assert_eq!(ledger.feed(Call::Get { n: 32 }), Answer { number: 0, value: 65_536 });
+    let mut met = Vec::new();
+    for (call, answer) in examples("Pointers").into_iter().filter(|(_, answer)| !MISSING.contains(&answer.number)) {
+        assert_eq!(ledger.feed(call), answer, "{call:?}");
+        met.push((call.name(), answer.number));
+    }
+    assert_eq!(met, [("step", 0), ("step", 0), ("step", 24), ("left", 13)]);
 }
 
 /// Those of locks are made one after the other on two blocks.

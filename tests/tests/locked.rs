@@ -4,9 +4,9 @@
 use std::collections::BTreeSet;
 use tulivombe_tests::call::Call;
 use tulivombe_tests::ledger::Ledger;
-use tulivombe_tests::literal::{call_of, ledger, Literal};
+use tulivombe_tests::literal::{call_of, each_record, ledger, Literal};
 use tulivombe_tests::plain::heap::{BASE, LOCK, MARK};
-use tulivombe_tests::plain::takes::{self, VERSION};
+use tulivombe_tests::plain::takes::VERSION;
 use tulivombe_tests::random::{self, append, times, Rng};
 use tulivombe_tests::record::Record;
 use tulivombe_tests::subject::{Answer, Caller, Part, Plain, Subject};
@@ -124,7 +124,7 @@ fn judged_before<S: Subject>(m: u32) {
         heap.refuses::<S>(Call::Write { p, w: 3, v: 256 }, 11);
         heap.refuses::<S>(Call::Write { p, w: 1, v: 256 }, 12);
         heap.refuses::<S>(Call::Copy { p, q: end, n: 0 }, 27);
-        heap.refuses::<S>(Call::Copy { p, q: BASE | MARK, n: 0 }, 13);
+        heap.refuses::<S>(Call::Copy { p, q: (BASE - 8) | MARK, n: 0 }, 13);
     }
     if m > 5 {
         heap.refuses::<S>(Call::Copy { p: BASE, q: end - 1, n: 0 }, 22);
@@ -153,21 +153,22 @@ fn refused_locks<S: Subject>(m: u32) {
             heap.refuses::<S>(Call::Lock { p }, number);
             heap.refuses::<S>(Call::Unlock { p }, number);
         };
-        for p in [0, BASE - 1, end, MARK - 1] {
+        for p in [0, BASE - 1, end, MARK - 1, MARK, BASE | MARK] {
             both(&heap, p, 27);
-            both(&heap, p | MARK, 13);
         }
-        for address in [BASE - 8, BASE, BASE + 16, BASE + heap.half] {
+        // each is sought in one of the blocks
+        for address in [BASE - 8, BASE - 1, BASE + 16, BASE + heap.half] {
             both(&heap, address | MARK, 13);
         }
         if m > 5 {
-            both(&heap, BASE + heap.half + 16, 22);
-            both(&heap, end - 1, 22);
+            for p in [BASE + heap.half + 16, end - 1, end | MARK] {
+                both(&heap, p, 22);
+            }
         }
         heap.table[0] ^= 1;
         for p in [0, BASE, BASE + heap.half, end - 1] {
             both(&heap, p, 20);
-            both(&heap, p | MARK, 13);
+            both(&heap, p | MARK, 20);
         }
         heap.table.pop();
         both(&heap, BASE, 8);
@@ -527,17 +528,7 @@ fn random_takes_meet_locked_blocks_in_every_way() {
     for _ in 0..4_000 * times() {
         let m = rng.within(5, 9);
         let file = random::file(rng, m, 120);
-        let (mut heap, mut registers, mut at) = (Ledger::new(m), [0; 16], 2);
-        while let Ok((record, next)) = takes::read(&file, at) {
-            at = next;
-            let (call, d) = call_of(record, &registers);
-            let before = heap.clone();
-            let Answer { number, value } = heap.feed(call);
-            meet(&mut met, &before, call, number);
-            if let (0, Some(d)) = (number, d) {
-                registers[usize::from(d)] = value;
-            }
-        }
+        each_record(&file, m, |before, call, number| meet(&mut met, before, call, number));
     }
     assert_eq!(met, every_way());
 }

@@ -112,15 +112,16 @@ fn marked_pointers(end: u32) -> [(u32, i64); 24] {
     ]
 }
 
-/// A marked pointer is judged where it is sought, by step alone: every other call refuses it before that.
+/// A marked pointer is judged where it is sought. One with a home is accepted by step alone.
 fn marked<S: Subject>(heap: &Heap, address: u32, sought_at: i64) {
     let p = address | MARK;
     assert_eq!(sought(p), sought_at, "{address} marked");
     let i = (sought_at - i64::from(address)) as u32;
     let what = format!("{}: {address} marked, in {} bytes", S::NAME, heap.arena.len());
-    assert_eq!(heap.made::<S>(Call::Step { p, i }), heap.number(sought_at), "{what}");
-    assert_eq!(heap.made::<S>(Call::Left { p }), 13, "{what}: left");
-    assert_eq!(heap.made::<S>(Call::Copy { p: heap.end, q: p, n: 1 }), 13, "{what}: copy");
+    let number = heap.number(sought_at);
+    assert_eq!(heap.made::<S>(Call::Step { p, i }), number, "{what}");
+    assert_eq!(heap.made::<S>(Call::Left { p }), if number == 0 { 13 } else { number }, "{what}: left");
+    assert_eq!(heap.made::<S>(Call::Copy { p: heap.end, q: p, n: 1 }), OUTSIDE, "{what}: copy");
 }
 
 /// In copy one outside address is enough, and then one free slot, whichever pointer it is.
@@ -140,7 +141,6 @@ fn judged_before<S: Subject>(mut heap: Heap) {
         assert_eq!(heap.made::<S>(Call::Read { p, w: 3 }), 11, "{}", S::NAME);
         assert_eq!(heap.made::<S>(Call::Write { p, w: 3, v: 256 }), 11, "{}", S::NAME);
         assert_eq!(heap.made::<S>(Call::Write { p, w: 1, v: 256 }), 12, "{}", S::NAME);
-        assert_eq!(heap.made::<S>(Call::Copy { p, q: BASE | MARK, n: 1 }), 13, "{}", S::NAME);
         assert_eq!(S::left(&heap.arena, &heap.table[1..], p).number, 8, "{}", S::NAME);
     }
     *heap.table.last_mut().expect("a table has slots") = 3;

@@ -108,7 +108,8 @@ fn refused<S: Subject>() {
         assert!(arena == before, "{}: bytes after a refused copy to {p} from {q}", S::NAME);
         answer
     };
-    for (p, q) in [(BASE, BASE + 1), (BASE + 1, BASE)] {
+    // marked, both are sought a slot back, in the same block
+    for (p, q) in [(BASE + 16, BASE + 17), (BASE + 17, BASE + 16)] {
         assert_eq!(copy(&table, p | MARK, q), Answer { number: 13, value: 0 });
         assert_eq!(copy(&table, p, q | MARK), Answer { number: 13, value: 0 });
         assert_eq!(copy(&table[1..], p, q), Answer { number: 8, value: 0 });

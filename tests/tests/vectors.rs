@@ -18,7 +18,7 @@ fn all<S: Subject>() {
         lines[form] += text.hold::<S>();
         lines
     });
-    assert_eq!(lines, [2209, 5049, 11432, 490, 153]);
+    assert_eq!(lines, [2209, 5049, 13511, 490, 156]);
 }
 
 #[test]

@@ -30,6 +30,10 @@ pub or-right : (a : Bool) {b : Bool} → b ≡ true → a || b ≡ true
 or-right true h = refl
 or-right false h = h
 
+pub or-none : (b : Bool) → b ≡ b || false
+or-none true = refl
+or-none false = refl
+
 -- two tests are equal that are true together
 pub true-together : (a b : Bool) → (a ≡ true → b ≡ true) → (b ≡ true → a ≡ true) → a ≡ b
 true-together true b f g = sym (f refl)

@@ -1,5 +1,5 @@
 -- What a call may rely on of a pointer's referent, and the outcomes of the calls that go by it. The proofs of `unchecked` cite these over the values of their
--- places: what `locate` found, what `left_in` and `offset` gave, what was stored and answered.
+-- places: what `locate_plain` found, in a step `locate`, what `left_in` and `offset` gave, what was stored and answered.
 use Prim.Native.Nat.{ℕ, _+_, _-_, _*_, _/_, _^_, _≤_, _<_, min, max}
 use mathlib.Core.Path.{_≡_, refl, sym, _∙_, ap, ap₂, subst}
 use mathlib.Core.Bool.{Bool, true, false, cond, _||_}
@@ -21,10 +21,10 @@ use Rattle.blocks.specs.declared.Referent.the-variants.{Found}
 use Rattle.blocks.proofs.Floors.{pow-split, floor-same}
 use Rattle.blocks.proofs.Referents.{referent-block, referent-from-zero}
 use Rattle.heap.specs.Views.{View, referentOfPointer, leftFrom}
-use Rattle.heap.specs.Rules.{badWidth, outsideArena, dead, homeRules, bothHomes, lockRules, argumentRules, stateRules}
+use Rattle.heap.specs.Rules.{badWidth, outsideArena, dead, plainRules, bothPlain, lockRules, argumentRules, stateRules}
 use Rattle.heap.specs.Effects.{value, stored}
 use Rattle.heap.specs.Heaps.{heapOf, heapView, entered, heapStep, outcome}
-use Rattle.heap.specs.Inner.{Sound, Ready, Holding, located, numberIn}
+use Rattle.heap.specs.Inner.{Sound, Ready, Holding, locatedBy, located, locatedPlain, numberIn}
 use Rattle.heap.specs.Changes.{changeOf}
 use Rattle.heap.specs.declared.Call.{Call}
 use Rattle.heap.specs.declared.Call.the-variants.{Read, Write, Left, Copy, Fill}
@@ -34,7 +34,7 @@ use Rattle.heap.specs.declared.refusals.Located.the-variants.{Refused, I
 use Rattle.common.proofs.Refusals.{condOf, first-stays, first-goes-on}
 use Rattle.heap.proofs.Settling.{answer}
 use Rattle.heap.proofs.Judging.{argument-clear, step-refused, step-accepted}
-use Rattle.heap.proofs.Homes.{located-number, located-refused, located-inside}
+use Rattle.heap.proofs.Homes.{located-refused, plain-has-home, is-plain, home-inside, plain-inside, plain-to-number, plain-number}
 
 -- a block of an arena starts at a multiple of its size
 aligned-floor : (t m s e : ℕ) → e ≤ 16 → Aligned t m (record { start = s; order = e }) → floor e s ≡ s
@@ -85,7 +85,7 @@ module _ (t m : ℕ) (a tab : List ℕ) (g : Sound t m a tab) where
 
   pub found-holding : (p : ℕ) {s e : ℕ} → p < 2 ^ 32 → located w p ≡ Inside s e → Holding t s e (fromZero (sought t p)) (address p)
   found-holding p {s} {e} l f =
-      let x = found-within p s e (located-inside w p f .1) in
+      let x = found-within p s e (home-inside w p f .1) in
       let r : floor e s ≡ s = aligned-floor t m s e (x .order) (x .aligned) in
       record {
         slot-low = g .slot-low;
@@ -108,41 +108,51 @@ narrow {t} {m} {c} {a} {tab} z k n = go (eqb k 1) (eqb k 2) refl refl (not-false
 
 -- ---- a call that is ready, and goes by the referent of its pointer p first and then by rules of its own
 
-pub home-first : {t m : ℕ} {c : Call} {a tab : List ℕ} {s e : ℕ} → Ready t m c a tab → (p : ℕ) (own : List Refusal)
+-- Where rs, the rules that judge p, lead it to a number, k, that refuses the call.
+pub led-refused : {t m : ℕ} {c : Call} {a tab : List ℕ} {l : Located} {k : ℕ} {r : Answer} → Ready t m c a tab → (p : ℕ) (rs own : List Refusal)
     → let v = heapView t m (heapOf a tab) in
-    stateRules c v ≡ homeRules v p ++ own → located v p ≡ Inside s e → first (stateRules c v) ≡ first own
-home-first {t} {m} {c} {a} {tab} z p own q f =
-    let v : View = heapView t m (heapOf a tab) in ap first q ∙ first-goes-on (homeRules v p) own refl (located-inside v p f .0)
+    (first rs ≡ 0 → dead v p ≡ false) → stateRules c v ≡ rs ++ own → l ≡ locatedBy (first rs) (referentOfPointer v p)
+    → l ≡ Refused k → r ≡ answer k 0 → outcome r a tab ≡ heapStep t m c (heapOf a tab)
+led-refused {t} {m} {c} {a} {tab} {k = k} z p rs own home q found is e =
+    let (n, some) = located-refused (first rs) (referentOfPointer (heapView t m (heapOf a tab)) p) home k (sym found ∙ is) in
+    ap (λ (x : Answer). outcome x a tab) e ∙ step-refused t m c a tab z k (sym (ap first q ∙ first-stays rs own (λ x. some (sym n ∙ x)) ∙ n)) some
 
 -- p is plain, and leads to the block of order e at s
 pub record Led (t m : ℕ) (c : Call) (a tab : List ℕ) (p s e : ℕ) : Type 0 where
   pub ready : Ready t m c a tab
-  pub found : located (heapView t m (heapOf a tab)) p ≡ Inside s e
+  pub found : locatedPlain (heapView t m (heapOf a tab)) p ≡ Inside s e
   pub within : Within t m s e p
 
--- what `locate` finds by the table alone, l
-module _ {t m : ℕ} {c : Call} {a tab : List ℕ} {l : Located} (z : Ready t m c a tab) (p : ℕ) (found : l ≡ located (heapView t m (heapOf [] tab)) p) where
+-- what `locate_plain` finds by the table alone, l
+module _ {t m : ℕ} {c : Call} {a tab : List ℕ} {l : Located} (z : Ready t m c a tab) (p : ℕ) (found : l ≡ locatedPlain (heapView t m (heapOf [] tab)) p) where
   abbrev v : View
   v = heapView t m (heapOf a tab)
 
   -- a number refuses the call
-  pub led-refused : (own : List Refusal) → stateRules c v ≡ homeRules v p ++ own → {k : ℕ} → l ≡ Refused k → {r : Answer} → r ≡ answer k 0
+  pub plain-refused : (own : List Refusal) → stateRules c v ≡ plainRules v p ++ own → {k : ℕ} → l ≡ Refused k → {r : Answer} → r ≡ answer k 0
       → outcome r a tab ≡ heapStep t m c (heapOf a tab)
-  led-refused own q {k} is {r} e =
-      let (n, some) = located-refused v p k (sym found ∙ is) in
-      ap (λ (x : Answer). outcome x a tab) e
-      ∙ step-refused t m c a tab z k (sym (ap first q ∙ first-stays (homeRules v p) own (λ x. some (sym n ∙ x)) ∙ n)) some
+  plain-refused own q is e = led-refused z p (plainRules v p) own (plain-has-home v p) q found is e
 
-  -- and a block holds p, where c takes plain pointers
-  pub led : (condOf 13 (argumentRules m c) ≡ false → marked p ≡ false) → {s e : ℕ} → l ≡ Inside s e → Led t m c a tab p s e
-  led plain {s} {e} is =
-      let f : located v p ≡ Inside s e = sym found ∙ is in
-      let x = plain-within t m a tab (z .sound) p s e (plain (argument-clear t m c a tab z 13)) (located-inside v p f .1) in
-      record { ready = z; found = f; within = x }
+  -- and a block holds p
+  pub led : {s e : ℕ} → l ≡ Inside s e → Led t m c a tab p s e
+  led {s} {e} is =
+      let f : locatedPlain v p ≡ Inside s e = sym found ∙ is in
+      let (n, h) = plain-inside v p f in
+      record { ready = z; found = f; within = plain-within t m a tab (z .sound) p s e (is-plain v p n) h }
 
 module _ {t m : ℕ} {c : Call} {a tab : List ℕ} {p s e : ℕ} (d : Led t m c a tab p s e) where
   abbrev seen : View
   seen = heapView t m (heapOf a tab)
+
+  passed : (first (plainRules seen p) ≡ 0) × (referentOfPointer seen p ≡ Found s e)
+  passed = plain-inside seen p (d .found)
+
+  pub led-found : referentOfPointer seen p ≡ Found s e
+  led-found = passed .1
+
+  -- so the call is judged by its own rules
+  pub home-first : (own : List Refusal) → stateRules c seen ≡ plainRules seen p ++ own → first (stateRules c seen) ≡ first own
+  home-first own q = ap first q ∙ first-goes-on (plainRules seen p) own refl (passed .0)
 
   pub left-asks : (e ≤ 16) × (s ≤ p) × (p < s + 2 ^ e) × (s < 2 ^ 31)
   left-asks = let x = d .within in (x .order, x .low, x .high, omega (arith, x .inside, x .top))
@@ -155,12 +165,12 @@ module _ {t m : ℕ} {c : Call} {a tab : List ℕ} {p s e : ℕ} (d : Led t m c 
   room o k l = let x = d .within in omega (arith, x .above, x .low, x .inside, pow-pos m, d .ready .sound .size)
 
   pub left-is : {l : ℕ} → l ≡ leftIn (Found s e) p → l ≡ leftFrom seen p
-  left-is q = q ∙ ap (λ (h : Referent). leftIn h p) (sym (located-inside seen p (d .found) .1))
+  left-is q = q ∙ ap (λ (h : Referent). leftIn h p) (sym led-found)
 
   -- where c needs k bytes from p on, and is judged by `last` after that
-  module _ (k : ℕ) (last : List Refusal) (q : stateRules c seen ≡ homeRules seen p ++ (25 when ltb (leftFrom seen p) k ∷ last)) where
+  module _ (k : ℕ) (last : List Refusal) (q : stateRules c seen ≡ plainRules seen p ++ (25 when ltb (leftFrom seen p) k ∷ last)) where
     own-first : (b : Bool) → ltb (leftIn (Found s e) p) k ≡ b → first (stateRules c seen) ≡ cond b 25 (first last)
-    own-first b h = home-first (d .ready) p _ q (d .found) ∙ rw (located-inside seen p (d .found) .1, h)
+    own-first b h = home-first _ q ∙ rw (led-found, h)
 
     pub short-refused : leftIn (Found s e) p < k → {r : Answer} → r ≡ answer 25 0 → outcome r a tab ≡ heapStep t m c (heapOf a tab)
     short-refused h y =
@@ -183,7 +193,7 @@ module _ {t m p s e : ℕ} {a tab : List ℕ} where
   pub left-done : Led t m (Left p) a tab p s e → {l : ℕ} → l ≡ leftIn (Found s e) p → {r : Answer} → r ≡ answer 0 l
       → outcome r a tab ≡ heapStep t m (Left p) (heapOf a tab)
   unfolding stateRules value stored entered
-  left-done d q y = rw (y, left-is d q) (step-accepted t m (Left p) a tab (d .ready) (home-first (d .ready) p [] refl (d .found)))
+  left-done d q y = rw (y, left-is d q) (step-accepted t m (Left p) a tab (d .ready) (home-first d [] refl))
 
   module _ {w : ℕ} {at : ℕ} (o : at ≡ p - base) (fits : w ≤ leftIn (Found s e) p) where
     pub read-done : Led t m (Read p w) a tab p s e → {x : ℕ} → x ≡ bigEndian a at w → {r : Answer} → r ≡ answer 0 x
@@ -199,7 +209,7 @@ module _ {t m p s e : ℕ} {a tab : List ℕ} where
   pub fill-last : {v n : ℕ} → Led t m (Fill p v n) a tab p s e
       → let w = heapView t m (heapOf a tab) in first (stateRules (Fill p v n) w) ≡ first (lockRules w p)
   unfolding stateRules
-  fill-last d = home-first (d .ready) p _ refl (d .found)
+  fill-last d = home-first d _ refl
 
   pub fill-done : {v n l k at : ℕ} → Led t m (Fill p v n) a tab p s e → lockedIn t tab p ≡ false → l ≡ leftIn (Found s e) p → k ≡ min n l → at ≡ p - base
       → {b : List ℕ} → b ≡ over a at (replicate k v) → {r : Answer} → r ≡ answer 0 k → outcome r b tab ≡ heapStep t m (Fill p v n) (heapOf a tab)
@@ -208,43 +218,47 @@ module _ {t m p s e : ℕ} {a tab : List ℕ} where
 
 -- ---- a copy, from y to p
 
+-- of two lists with the same falling numbers, k the first: the greater of their firsts is that of the list that asks either
+either : (k : ℕ) (a b : Bool) {x y z : ℕ} → x ≤ k → y ≤ k → z ≡ max x y → cond (a || b) k z ≡ max (cond a k x) (cond b k y)
+either k true true l u e = omega arith
+either k true false l u e = omega arith
+either k false true l u e = omega arith
+either k false false l u e = e
+
+at-most : (k n : ℕ) (b : Bool) {x : ℕ} → n ≤ k → x ≤ k → cond b n x ≤ k
+at-most k n true l u = l
+at-most k n false l u = u
+
 module _ {t m p y n : ℕ} {a tab : List ℕ} (z : Ready t m (Copy p y n) a tab) where
   abbrev x : View
   x = heapView t m (heapOf a tab)
 
   -- the number of its pointers is the greater of theirs
-  both-first : first (bothHomes x p y) ≡ max (first (homeRules x p)) (first (homeRules x y))
-  both-first = go (outsideArena x p) (outsideArena x y) (dead x p) (dead x y)
+  numbers-first : first (bothPlain x p y) ≡ max (numberIn (locatedPlain x p)) (numberIn (locatedPlain x y))
+  numbers-first =
+      either 27 (outsideArena x p) (outsideArena x y) (below p) (below y)
+      (either 22 (dead x p) (dead x y) (at-most 22 13 (marked p) (omega arith) (omega arith)) (at-most 22 13 (marked y) (omega arith) (omega arith))
+      (either 13 (marked p) (marked y) (omega arith) (omega arith) refl))
+      ∙ ap₂ max (sym (plain-number x p)) (sym (plain-number x y))
     where
-      go : (a b c d : Bool) → first (27 when (a || b) ∷ 22 when (c || d) ∷ []) ≡ max (first (27 when a ∷ 22 when c ∷ [])) (first (27 when b ∷ 22 when d ∷ []))
-      go true true c d = refl
-      go true false c true = refl
-      go true false c false = refl
-      go false true true d = refl
-      go false true false d = refl
-      go false false true true = refl
-      go false false true false = refl
-      go false false false true = refl
-      go false false false false = refl
-
-  numbers-first : first (bothHomes x p y) ≡ max (numberIn (located x p)) (numberIn (located x y))
-  numbers-first = both-first ∙ ap₂ max (sym (located-number x p)) (sym (located-number x y))
+      below : (v : ℕ) → first (22 when dead x v ∷ 13 when marked v ∷ []) ≤ 27
+      below v = at-most 27 22 (dead x v) (omega arith) (at-most 27 13 (marked v) (omega arith) (omega arith))
 
   -- so it is refused where the pointer v, one of them, is
-  pub both-refused : {k : ℕ} → k ≡ max (numberIn (located x p)) (numberIn (located x y)) → (v i : ℕ) → located x v ≡ Refused i
-      → numberIn (located x v) ≤ max (numberIn (located x p)) (numberIn (located x y))
+  pub both-refused : {k : ℕ} → k ≡ max (numberIn (locatedPlain x p)) (numberIn (locatedPlain x y)) → (v i : ℕ) → locatedPlain x v ≡ Refused i
+      → numberIn (locatedPlain x v) ≤ max (numberIn (locatedPlain x p)) (numberIn (locatedPlain x y))
       → {r : Answer} → r ≡ answer k 0 → outcome r a tab ≡ heapStep t m (Copy p y n) (heapOf a tab)
   unfolding stateRules
   both-refused {k} q v i l u e =
-      let (_, o) = located-refused x v i l in
+      let (_, o) = plain-to-number x v i l in
       let some : k ≡ 0 → ⊥ = λ r. o (omega (arith, ap numberIn l)) in
       let number = q ∙ sym numbers-first in
-      rw e (step-refused t m (Copy p y n) a tab z k (number ∙ sym (first-stays (bothHomes x p y) (lockRules x p) (λ r. some (number ∙ r)))) some)
+      rw e (step-refused t m (Copy p y n) a tab z k (number ∙ sym (first-stays (bothPlain x p y) (lockRules x p) (λ r. some (number ∙ r)))) some)
 
   -- and where both lead to a block only the lock is left to judge
-  pub copy-last : {s e s2 e2 : ℕ} → located x p ≡ Inside s e → located x y ≡ Inside s2 e2 → first (stateRules (Copy p y n) x) ≡ first (lockRules x p)
+  pub copy-last : {s e s2 e2 : ℕ} → locatedPlain x p ≡ Inside s e → locatedPlain x y ≡ Inside s2 e2 → first (stateRules (Copy p y n) x) ≡ first (lockRules x p)
   unfolding stateRules
-  copy-last d f = first-goes-on (bothHomes x p y) (lockRules x p) refl (numbers-first ∙ rw (d, f))
+  copy-last d f = first-goes-on (bothPlain x p y) (lockRules x p) refl (numbers-first ∙ rw (d, f))
 
 -- and else it stores as many bytes as both referents have left
 pub copy-done : {t m p y n : ℕ} {a tab : List ℕ} {s e s2 e2 k at from : ℕ} → Led t m (Copy p y n) a tab p s e → Led t m (Copy p y n) a tab y s2 e2

@@ -21,13 +21,13 @@ use Rattle.heap.specs.Views.{View, slotOrder}
 use Rattle.heap.specs.Rules.{argumentRules, stateRules, rules, addressRules}
 use Rattle.heap.specs.Effects.{value, stored, Outcome, settled}
 use Rattle.heap.specs.Heaps.{Heap, heapOf, wrongSizes, heapView, viewOf, entered, heapStep, heapCall, heapFresh, freshHeap}
-use Rattle.heap.specs.Heaps.{bit, checkStep, heapCheck, outcome}
+use Rattle.heap.specs.Heaps.{pointerNumber, bit, checkStep, heapCheck, outcome}
 use Rattle.heap.specs.Changes.{changeOf}
 use Rattle.heap.specs.Inner.{heapOrder, beforeCall, Sound, Ready}
 use Rattle.heap.specs.declared.Answer.{Answer}
 use Rattle.heap.specs.declared.Call.{Call}
 use Rattle.heap.specs.declared.Call.the-variants.{Get, Give, Step, Read, Write, Left, Copy, Fill, SetLock}
-use Rattle.heap.proofs.Settling.{answer, settled-refused}
+use Rattle.heap.proofs.Settling.{answer, settled-refused, settled-number}
 
 arguments-positive : (m : ℕ) (c : Call) → positive (argumentRules m c) ≡ true
 unfolding argumentRules
@@ -205,10 +205,22 @@ module _ {c : Call} {a tab : List ℕ} {k m : ℕ} (j : Judged c a tab k m) wher
   unfolding heapCall
   judged-call z e = e ∙ ap (λ (o : ℕ). heapStep slotOrder o c (heapOf a tab)) (judged-order z)
 
+-- the number of a call's answer
+pub call-number : (c : Call) (h : Heap) → heapCall c h .answer .number ≡ first (rules c (viewOf h))
+unfolding heapCall heapStep
+call-number c h = settled-number (first (rules c (viewOf h))) _ _ _
+
 -- check and show are judged as left is
 pub address-left : (p : ℕ) (w : View) → addressRules w p ≡ rules (Left p) w
 unfolding addressRules rules argumentRules stateRules
 address-left p w = refl
+
+pub address-number : (p : ℕ) (h : Heap) → pointerNumber h p ≡ first (rules (Left p) (viewOf h))
+address-number p h = ap first (address-left p (viewOf h))
+
+pub check-number : (p i : ℕ) (h : Heap) → heapCheck p i h .number ≡ first (rules (Left p) (viewOf h))
+unfolding heapCheck checkStep
+check-number p i h = settled-number (first (addressRules (viewOf h) p)) (bit (viewOf h .inside p i)) h h ∙ address-number p h
 
 module _ {p k m : ℕ} {a tab : List ℕ} (i : ℕ) (j : Judged (Left p) a tab k m) where
   pub check-refused : (k ≡ 0 → ⊥) → {r : Answer} → r ≡ answer k 0 → r ≡ heapCheck p i (heapOf a tab)

@@ -12,6 +12,7 @@ pub mod Stepping
 pub mod Placing
 pub mod Showing
 pub mod MissingKinds
+pub mod DeadAndMarked
 pub mod Locking
 pub mod AnswerBytes
 pub mod Changes

@@ -13,10 +13,9 @@ use Rattle.common.specs.Refusals.{first}
 use Rattle.common.specs.Bytes.{over}
 use Rattle.common.proofs.Bytes.{length-over, over-before, over-in, over-after}
 use Rattle.common.proofs.Booleans.{and-both}
-use Rattle.common.proofs.Refusals.{clear}
 use Rattle.blocks.specs.Blocks.{base, missing}
 use Rattle.blocks.specs.Tables.{entryLocked, entryOf, lockedIn, referentIn}
-use Rattle.blocks.specs.Pointers.{marked, sought}
+use Rattle.blocks.specs.Pointers.{sought}
 use Rattle.blocks.specs.declared.Referent.{Referent}
 use Rattle.blocks.specs.declared.Referent.the-variants.{Missing, Found}
 use Rattle.blocks.proofs.Referents.{ReferentBlock, referent-block}
@@ -24,15 +23,15 @@ use Rattle.blocks.proofs.Sets.{held-low, held-high}
 use Rattle.blocks.proofs.Slots.{block, slotOf, slot-start, Slots, slots-of, held-slots, slots-held}
 use Rattle.blocks.proofs.Tables.{lock-of-entry, entry-of-both}
 use Rattle.heap.specs.Views.{View, slotOrder, referentOfPointer}
-use Rattle.heap.specs.Rules.{rules, argumentRules, stateRules}
+use Rattle.heap.specs.Rules.{rules, plainRules, stateRules}
 use Rattle.heap.specs.Effects.{value, stored}
 use Rattle.heap.specs.Heaps.{Heap, heapOf, viewOf, stamped, entered, heapStep, heapCall}
 use Rattle.heap.specs.Inner.{Ready}
 use Rattle.heap.specs.Locking.{Locking}
 use Rattle.heap.specs.declared.Call.{Call}
 use Rattle.heap.specs.declared.Call.the-variants.{SetLock}
-use Rattle.heap.proofs.Settling.{settled-number}
-use Rattle.heap.proofs.Judging.{argument-clear, accepted-ready}
+use Rattle.heap.proofs.Judging.{accepted-ready, call-number}
+use Rattle.heap.proofs.Homes.{plain-has-home, is-plain}
 
 -- what is stored where it stands already changes nothing
 over-same-entries : (s xs : List ℕ) (at : ℕ) → at + length xs ≤ length s → ((i : ℕ) → i < length xs → getD s (at + i) 0 ≡ getD xs i 0) → over s at xs ≡ s
@@ -123,13 +122,16 @@ module _ (p : ℕ) (l : Bool) (h : Heap) where
     ready : Ready slotOrder (w .order) c (h .arena) (h .table)
     ready = accepted-ready c (h .arena) (h .table) z .0
 
+    passed : first (plainRules w p) ≡ 0
+    unfolding stateRules
+    passed = accepted-ready c (h .arena) (h .table) z .1
+
     plain : referentOfPointer w p ≡ referentIn slotOrder (h .table) p
-    unfolding argumentRules sought
-    plain = let n : marked p ≡ false = argument-clear slotOrder (w .order) c (h .arena) (h .table) ready 13 in rw n
+    unfolding sought
+    plain = rw (is-plain w p passed)
 
     home : missing (referentOfPointer w p) ≡ false
-    unfolding stateRules
-    home = clear (stateRules c w) refl (accepted-ready c (h .arena) (h .table) z .1) 22
+    home = plain-has-home w p passed
 
     left : (s e : ℕ) → referentOfPointer w p ≡ Found s e → heapCall c h .state ≡ heapOf (h .arena) (stamped slotOrder (h .table) s e (entryOf e l))
     unfolding heapCall heapStep value stored entered
@@ -165,12 +167,13 @@ module _ (p : ℕ) (l : Bool) (h : Heap) where
       ap (λ (k : Heap). lockedIn slotOrder (k .table) p) (a .leaves)
       ∙ locks slotOrder (w .order) (h .table) (a .ready .sound .slots) p (a .start) (a .order) (a .holder) l small
 
-  number : heapCall c h .answer .number ≡ first (rules c w)
-  unfolding heapCall heapStep
-  number = settled-number (first (rules c w)) _ _ _
-
 pub locking : (p : ℕ) (l : Bool) (h : Heap) → Locking p l h
-locking p l h = record { kept = kept p l h; set = λ z. set p l h (sym (number p l h) ∙ z); second = go (first (rules (SetLock p l) (viewOf h))) refl }
+locking p l h =
+    record {
+      kept = kept p l h;
+      set = λ z. set p l h (sym (call-number (SetLock p l) h) ∙ z);
+      second = go (first (rules (SetLock p l) (viewOf h))) refl;
+    }
   where
     after : Heap → Heap
     after k = heapCall (SetLock p l) k .state

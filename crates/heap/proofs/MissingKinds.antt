@@ -15,16 +15,15 @@ use Rattle.blocks.specs.Tables.{freeIn, referentIn}
 use Rattle.blocks.specs.Orders.{smallestArena}
 use Rattle.blocks.specs.Pointers.{sought, referentAt, outsideAt}
 use Rattle.heap.specs.Views.{View, slotOrder}
-use Rattle.heap.specs.Rules.{outsideArena, dead, argumentRules, stateRules, rules, addressRules}
-use Rattle.heap.specs.Heaps.{Heap, heapView, viewOf, heapStep, heapCall, pointerNumber, bit, checkStep, heapCheck}
+use Rattle.heap.specs.Rules.{outsideArena, dead, argumentRules, stateRules, rules}
+use Rattle.heap.specs.Heaps.{Heap, heapView, viewOf, heapCall, pointerNumber, heapCheck}
 use Rattle.heap.specs.MissingKinds.{pointersOf, freeAt, atFreeSlot, judgedBefore, Tells}
 use Rattle.heap.specs.declared.Call.{Call}
 use Rattle.heap.specs.declared.Call.the-variants.{Get, Give, Step, Read, Write, Left, Copy, Fill, SetLock}
-use Rattle.common.proofs.Booleans.{and-right, or-cases, or-right, or-false-left, or-false-right}
+use Rattle.common.proofs.Booleans.{and-right, or-none, or-cases, or-right, or-false-left, or-false-right}
 use Rattle.common.proofs.Refusals.{allOf, condOf, once, given, upTo, earlier, numbersTo, reached, one-of-more}
 use Rattle.blocks.proofs.Outside.{missing-free}
-use Rattle.heap.proofs.Settling.{settled-number}
-use Rattle.heap.proofs.Judging.{fits-sized, address-left}
+use Rattle.heap.proofs.Judging.{fits-sized, call-number, address-number, check-number}
 
 -- in the list rs, 27 and 22 test the pointers ps, in this order, and 8 comes before
 record Listed (w : View) (ps : List ℕ) (rs : List Refusal) : Type 0 where
@@ -38,10 +37,6 @@ record Listed (w : View) (ps : List ℕ) (rs : List Refusal) : Type 0 where
   to-22 : anyOf (dead w) ps ≡ true → allOf (isOneOf (22 ∷ 27 ∷ judgedBefore)) (numbersTo 22 rs) ≡ true
 
 module _ (w : View) where
-  alone : (b : Bool) → b ≡ b || false
-  alone true = refl
-  alone false = refl
-
   single : (p : ℕ) (rs : List Refusal) → once 27 rs ≡ true → once 22 rs ≡ true → condOf 27 rs ≡ outsideArena w p → condOf 22 rs ≡ dead w p
       → condOf 27 (upTo 22 rs) ≡ outsideArena w p → condOf 8 (upTo 22 rs) ≡ w .wrong-sizes
       → allOf (isOneOf (27 ∷ judgedBefore)) (numbersTo 27 rs) ≡ true → allOf (isOneOf (22 ∷ 27 ∷ judgedBefore)) (numbersTo 22 rs) ≡ true
@@ -50,9 +45,9 @@ module _ (w : View) where
       record {
         once-27 = a;
         once-22 = b;
-        test-27 = c ∙ alone (outsideArena w p);
-        test-22 = d ∙ alone (dead w p);
-        after-27 = e ∙ alone (outsideArena w p);
+        test-27 = c ∙ or-none (outsideArena w p);
+        test-22 = d ∙ or-none (dead w p);
+        after-27 = e ∙ or-none (outsideArena w p);
         after-8 = f;
         to-27 = λ x. g;
         to-22 = λ x. h;
@@ -77,12 +72,12 @@ module _ (w : View) where
   listed (Write p k v) = single p _ refl refl refl refl refl refl refl refl
   listed (Left p) = single p _ refl refl refl refl refl refl refl refl
   listed (Copy p q n) =
-      let far = ap (λ (b : Bool). outsideArena w p || b) (alone (outsideArena w q)) in
+      let far = ap (λ (b : Bool). outsideArena w p || b) (or-none (outsideArena w q)) in
       record {
         once-27 = refl;
         once-22 = refl;
         test-27 = far;
-        test-22 = ap (λ (b : Bool). dead w p || b) (alone (dead w q));
+        test-22 = ap (λ (b : Bool). dead w p || b) (or-none (dead w q));
         after-27 = far;
         after-8 = refl;
         to-27 = λ x. refl;
@@ -90,6 +85,18 @@ module _ (w : View) where
       }
   listed (Fill p v n) = single p _ refl refl refl refl refl refl refl refl
   listed (SetLock p l) = single p _ refl refl refl refl refl refl refl refl
+
+  -- by any view, 27 tells that a pointer is sought outside the arena, and 22 that one has no referent
+  pub outside-told : (c : Call) → first (rules c w) ≡ 27 → anyOf (outsideArena w) (pointersOf c) ≡ true
+  outside-told c e = let on = listed c in sym (on .test-27) ∙ given 26 (rules c w) (on .once-27) e
+
+  pub missing-told : (c : Call) → first (rules c w) ≡ 22 → anyOf (dead w) (pointersOf c) ≡ true
+  missing-told c e = let on = listed c in sym (on .test-22) ∙ given 21 (rules c w) (on .once-22) e
+
+-- a write has every number that is judged before a home is asked for
+pub judged-before : (p k v : ℕ) (w : View) → numbersTo 20 (rules (Write p k v) w) ≡ judgedBefore
+unfolding rules argumentRules stateRules
+judged-before p k v w = refl
 
 -- of a table whose length fits, in slots of 2 ^ t
 module _ (t m : ℕ) (h : Heap) (low : t ≤ m) (slots : length (h .table) ≡ 2 ^ (m - t)) where
@@ -151,24 +158,21 @@ module _ (t m : ℕ) (l : t ≤ smallestArena) (c : Call) (h : Heap) where
       let on = listed w c in
       let inside : first rs ≡ 22 → anyOf (outsideArena w) ps ≡ false = λ e. sym (on .after-27) ∙ earlier 21 rs e 27 in
       record {
-        tells-outside = λ e. sym (on .test-27) ∙ given 26 rs (on .once-27) e;
+        tells-outside = outside-told w c;
         tells-inside = inside;
         tells-free = λ e.
             let s = sized (sym (on .after-8) ∙ earlier 21 rs e 8) in
-            free-slots t m h (s .0) (s .1) ps (inside e) (sym (on .test-22) ∙ given 21 rs (on .once-22) e);
+            free-slots t m h (s .0) (s .1) ps (inside e) (missing-told w c e);
         outside-enough = λ o. one-of-more (numbersTo 27 rs) (27 ∷ judgedBefore) (on .to-27 o) _ (reached 27 rs (on .test-27 ∙ o));
         free-enough = free-told (w .wrong-sizes) refl;
       }
 
 pub call-tells : (c : Call) (h : Heap) → Tells (viewOf h) (pointersOf c) (heapCall c h .answer .number)
-unfolding heapCall heapStep
-call-tells c h = subst (Tells (viewOf h) (pointersOf c)) (sym (settled-number (first (rules c (viewOf h))) _ _ _)) (rules-tell slotOrder _ (omega arith) c h)
+call-tells c h = subst (Tells (viewOf h) (pointersOf c)) (sym (call-number c h)) (rules-tell slotOrder _ (omega arith) c h)
 
 -- show, whose number C is given, and check
 pub address-tells : (p : ℕ) (h : Heap) → Tells (viewOf h) (p ∷ []) (pointerNumber h p)
-address-tells p h = subst (Tells (viewOf h) (p ∷ [])) (sym (ap first (address-left p (viewOf h)))) (rules-tell slotOrder _ (omega arith) (Left p) h)
+address-tells p h = subst (Tells (viewOf h) (p ∷ [])) (sym (address-number p h)) (rules-tell slotOrder _ (omega arith) (Left p) h)
 
 pub check-tells : (p i : ℕ) (h : Heap) → Tells (viewOf h) (p ∷ []) (heapCheck p i h .number)
-unfolding heapCheck checkStep
-check-tells p i h =
-    subst (Tells (viewOf h) (p ∷ [])) (sym (settled-number (first (addressRules (viewOf h) p)) (bit (viewOf h .inside p i)) h h)) (address-tells p h)
+check-tells p i h = subst (Tells (viewOf h) (p ∷ [])) (sym (check-number p i h)) (rules-tell slotOrder _ (omega arith) (Left p) h)

@@ -18,7 +18,6 @@ use Rattle.blocks.specs.Orders.{neededOrder}
 use Rattle.blocks.specs.Placing.{placeIn}
 use Rattle.blocks.specs.declared.Place.{Place}
 use Rattle.blocks.specs.declared.Place.the-variants.{At, Nothing}
-use Rattle.blocks.specs.declared.Referent.the-variants.{Found}
 use Rattle.common.proofs.Booleans.{or-false-right}
 use Rattle.blocks.proofs.Floors.{pow-split}
 use Rattle.blocks.proofs.Orders.{Needed, needed-order}
@@ -34,8 +33,7 @@ use Rattle.heap.specs.declared.Call.{Call}
 use Rattle.heap.specs.declared.Call.the-variants.{Get, Give, SetLock}
 use Rattle.heap.proofs.Settling.{answer}
 use Rattle.heap.proofs.Judging.{argument-clear, step-refused, step-accepted}
-use Rattle.heap.proofs.Accesses.{Led, home-first, unlocked-accepted}
-use Rattle.heap.proofs.Homes.{located-inside}
+use Rattle.heap.proofs.Accesses.{Led, led-found, home-first, unlocked-accepted}
 
 -- Of a get that is ready: the order that it needs, and the place for it.
 module _ (t m n : ℕ) (a tab : List ℕ) (z : Ready t m (Get n) a tab) (e : ℕ) (q : e ≡ neededOrder t m n) where
@@ -103,12 +101,9 @@ module _ {t m p : ℕ} {a tab : List ℕ} {s e : ℕ} (d : Led t m (Give p) a ta
   abbrev u : View
   u = heapView t m (heapOf a tab)
 
-  abbrev f : referentOfPointer u p ≡ Found s e
-  f = located-inside u p (d .found) .1
-
   own-first : (b : Bool) → eqb s p ≡ b → first (stateRules (Give p) u) ≡ cond (not b) 23 (first (lockRules u p))
   unfolding stateRules
-  own-first b h = home-first (d .ready) p (23 when not-start (referentOfPointer u p) p ∷ lockRules u p) refl (d .found) ∙ rw (f, h)
+  own-first b h = home-first d (23 when not-start (referentOfPointer u p) p ∷ lockRules u p) refl ∙ rw (led-found d, h)
 
   pub give-inside : (s ≡ p → ⊥) → {r : Answer} → r ≡ answer 23 0 → outcome r a tab ≡ heapStep t m (Give p) (heapOf a tab)
   give-inside n y = rw y (step-refused t m (Give p) a tab (d .ready) 23 (sym (own-first false (ne-eqb s p n))) (λ x. omega arith))
@@ -121,7 +116,7 @@ module _ {t m p : ℕ} {a tab : List ℕ} {s e : ℕ} (d : Led t m (Give p) a ta
       → outcome r a tab′ ≡ heapStep t m (Give p) (heapOf a tab)
   unfolding value stored entered
   give-done q n {at} {k} o c te y =
-      let tm : over tab (at / 2 ^ t) (replicate k 0) ≡ stamped t tab p (orderIn (referentOfPointer u p)) 0 = rw (o, c, f) in
+      let tm : over tab (at / 2 ^ t) (replicate k 0) ≡ stamped t tab p (orderIn (referentOfPointer u p)) 0 = rw (o, c, led-found d) in
       rw (y, te, tm) (unlocked-accepted d (give-last q) n)
 
 -- Of a lock or an unlock: the block's entries become x.
@@ -132,6 +127,5 @@ unfolding stateRules value stored entered
 lock-done {t} {m} {p} {s} {e} {l} {a} {tab} d {at} {k} {x} o c i te y =
     let u : View = heapView t m (heapOf a tab) in
     let h = referentOfPointer u p in
-    let f : h ≡ Found s e = located-inside u p (d .found) .1 in
-    let tm : over tab (at / 2 ^ t) (replicate k x) ≡ stamped t tab (startIn h) (orderIn h) (entryOf (orderIn h) l) = rw (o, c, i, f) in
-    rw (y, te, tm) (step-accepted t m (SetLock p l) a tab (d .ready) (home-first (d .ready) p [] refl (d .found)))
+    let tm : over tab (at / 2 ^ t) (replicate k x) ≡ stamped t tab (startIn h) (orderIn h) (entryOf (orderIn h) l) = rw (o, c, i, led-found d) in
+    rw (y, te, tm) (step-accepted t m (SetLock p l) a tab (d .ready) (home-first d [] refl))

@@ -13,26 +13,25 @@ use Rattle.blocks.specs.Orders.{orderOf}
 use Rattle.blocks.specs.declared.Referent.{Referent}
 use Rattle.blocks.specs.declared.Referent.the-variants.{Missing, Found}
 use Rattle.heap.specs.Views.{slotOrder, referentOfPointer, leftFrom}
-use Rattle.heap.specs.Rules.{argumentRules, stateRules, rules}
+use Rattle.heap.specs.Rules.{stateRules, rules}
 use Rattle.heap.specs.Effects.{value}
 use Rattle.heap.specs.Heaps.{Heap, heapOf, viewOf, heapStep, heapCall, pointerNumber, shown, shownByLeft, shownFrom, outcome}
 use Rattle.heap.specs.Inner.{Ready}
 use Rattle.heap.specs.declared.Answer.{Answer}
 use Rattle.heap.specs.declared.Call.the-variants.{Left}
-use Rattle.common.proofs.Refusals.{clear}
-use Rattle.heap.proofs.Judging.{argument-clear, accepted-ready, address-left}
-use Rattle.heap.proofs.Settling.{settled-number, settled-value}
+use Rattle.heap.proofs.Judging.{accepted-ready, call-number, address-number}
+use Rattle.heap.proofs.Settling.{settled-value}
 use Rattle.heap.proofs.Accesses.{plain-within}
+use Rattle.heap.proofs.Homes.{plain-has-home, is-plain}
 
 module _ (p : ℕ) (h : Heap) where
   -- show's number is left's
   left-number : heapCall (Left p) h .answer .number ≡ pointerNumber h p
-  unfolding heapCall heapStep
-  left-number = settled-number (first (rules (Left p) (viewOf h))) _ _ _ ∙ ap first (sym (address-left p (viewOf h)))
+  left-number = call-number (Left p) h ∙ sym (address-number p h)
 
   left-value : pointerNumber h p ≡ 0 → heapCall (Left p) h .answer .value ≡ leftFrom (viewOf h) p
   unfolding heapCall heapStep value
-  left-value z = settled-value (first (rules (Left p) (viewOf h))) _ _ _ (ap first (sym (address-left p (viewOf h))) ∙ z)
+  left-value z = settled-value (first (rules (Left p) (viewOf h))) _ _ _ (sym (address-number p h) ∙ z)
 
   -- and its part has as many bytes as left gives
   shown-by-left : shown p h ≡ shownByLeft p h
@@ -57,17 +56,17 @@ module _ (p : ℕ) (a tab : List ℕ) (r : Answer) (e : outcome r a tab ≡ heap
     value-left = ap (λ x. x .answer .value) e ∙ left-value p h (sym number-left ∙ z)
 
     pub shown-inside : (base ≤ p) × (p - base + r .value ≤ length a)
-    unfolding argumentRules stateRules
-    shown-inside = go (referentOfPointer (viewOf h) p) refl (clear (stateRules (Left p) (viewOf h)) refl (y .1) 22)
+    unfolding stateRules
+    shown-inside = go (referentOfPointer (viewOf h) p) refl (plain-has-home (viewOf h) p (y .1))
       where
         y : Ready slotOrder (orderOf (length a)) (Left p) a tab × (first (stateRules (Left p) (viewOf h)) ≡ 0)
-        y = accepted-ready (Left p) a tab (ap first (sym (address-left p (viewOf h))) ∙ sym number-left ∙ z)
+        y = accepted-ready (Left p) a tab (sym (address-number p h) ∙ sym number-left ∙ z)
 
         go : (f : Referent) → referentOfPointer (viewOf h) p ≡ f → missing f ≡ false → (base ≤ p) × (p - base + r .value ≤ length a)
         go Missing f n = absurd (false≢true (sym n))
         go (Found s k) f n =
             let m : ℕ = orderOf (length a) in
-            let w = plain-within slotOrder m a tab (y .0 .sound) p s k (argument-clear slotOrder m (Left p) a tab (y .0) 13) f in
+            let w = plain-within slotOrder m a tab (y .0 .sound) p s k (is-plain (viewOf h) p (y .1)) f in
             let l : r .value ≡ s + 2 ^ k - p = value-left ∙ ap (λ (x : Referent). leftIn x p) f in
             (omega (arith, w .above, w .low), omega (arith, w .above, w .low, w .high, w .inside, y .0 .sound .size))
 

@@ -13,26 +13,27 @@ use lib.IntN.{ℤ, pos, negsuc}
 use lib.Pow.{pow-mono}
 use Rattle.common.specs.Refusals.{_when_, first}
 use Rattle.blocks.specs.Blocks.{floor}
-use Rattle.blocks.specs.Pointers.{markBit, marked, address, sought, referentAt, signed, exactSum, wrappedSum, checkBits, checkAt, inReach}
+use Rattle.blocks.specs.Pointers.{markBit, address, sought, referentAt, signed, exactSum, wrappedSum, checkBits, checkAt, inReach}
 use Rattle.blocks.specs.Inner.{fromZero}
 use Rattle.blocks.specs.Tables.{referentIn}
 use Rattle.blocks.specs.declared.Referent.{Referent}
 use Rattle.blocks.specs.declared.Referent.the-variants.{Found}
+use Rattle.common.proofs.Refusals.{first-goes-on}
 use Rattle.common.proofs.Booleans.{and-right, and-both, or-right}
 use Rattle.blocks.proofs.Checks.{check-holds}
 use Rattle.heap.specs.Views.{View, referentOfPointer}
-use Rattle.heap.specs.Rules.{homeRules, beyond, stateRules, addressRules}
+use Rattle.heap.specs.Rules.{homeRules, plainRules, beyond, stateRules, addressRules}
 use Rattle.heap.specs.Effects.{pointerAt, value, stored, Outcome, settled}
 use Rattle.heap.specs.Heaps.{Heap, heapOf, heapView, insideByCheck, entered, heapStep, bit, checkStep, outcome}
-use Rattle.heap.specs.Inner.{Sound, Ready, Holding, steppedIn, located}
+use Rattle.heap.specs.Inner.{Sound, Ready, Holding, steppedIn, located, locatedPlain}
 use Rattle.heap.specs.declared.Answer.{Answer}
 use Rattle.heap.specs.declared.Call.the-variants.{Step}
 use Rattle.heap.specs.declared.refusals.Located.{Located}
 use Rattle.heap.specs.declared.refusals.Located.the-variants.{Refused, Inside}
 use Rattle.heap.proofs.Settling.{answer, settled-refused}
 use Rattle.heap.proofs.Judging.{ready-first, sound-sized, sizes-right}
-use Rattle.heap.proofs.Homes.{located-refused, located-inside}
-use Rattle.heap.proofs.Accesses.{found-within, home-first}
+use Rattle.heap.proofs.Homes.{has-home, is-plain, home-inside, plain-inside, plain-to-number}
+use Rattle.heap.proofs.Accesses.{found-within, led-refused}
 
 -- of an address in the lower half, the exact sum is the one that wraps, or is negative, and the one that wraps lies in the upper half
 sum-cases : (q i : ℕ) → q < 2 ^ 31 → (exactSum q i ≡ pos (wrappedSum q i)) ⊎ ((n : ℕ) × (exactSum q i ≡ negsuc n) × (2 ^ 31 ≤ wrappedSum q i))
@@ -136,19 +137,31 @@ module _ (t m : ℕ) (a tab : List ℕ) (p i s e : ℕ) (f : referentAt (referen
   unfolding insideByCheck
   inside-is = rw (f, sought-exact (referentIn t tab) (sought t p) s e (wrappedSum (address p) i) f)
 
+-- where `locate` leads it to a number
+pub step-missing : {t m : ℕ} {a tab : List ℕ} {p i k : ℕ} {l : Located} {r : Answer} → Ready t m (Step p i) a tab
+    → l ≡ located (heapView t m (heapOf [] tab)) p → l ≡ Refused k → r ≡ answer k 0 → outcome r a tab ≡ heapStep t m (Step p i) (heapOf a tab)
+unfolding stateRules
+step-missing {t} {m} {a} {tab} {p} {i} z found is e =
+    let v : View = heapView t m (heapOf a tab) in
+    led-refused z p (homeRules v p) (24 when beyond v p i ∷ []) (has-home v p) refl found is e
+
 -- and is led there by no refusal
 module _ {t m : ℕ} {a tab : List ℕ} {p i s e : ℕ} (g : Ready t m (Step p i) a tab) (l : located (heapView t m (heapOf a tab)) p ≡ Inside s e) where
   abbrev v : View
   v = heapView t m (heapOf a tab)
 
   abbrev f : referentOfPointer v p ≡ Found s e
-  f = located-inside v p l .1
+  f = home-inside v p l .1
 
   abbrev x : ℤ
   x = exactSum (address p) i
 
   abbrev b : Bool
   b = checkBits e (fromZero (sought t p)) (wrappedSum (address p) i)
+
+  judged-last : first (stateRules (Step p i) v) ≡ first (24 when beyond v p i ∷ [])
+  unfolding stateRules
+  judged-last = first-goes-on (homeRules v p) (24 when beyond v p i ∷ []) refl (home-inside v p l .0)
 
   own-first : first (24 when beyond v p i ∷ []) ≡ cond (not (b || inReach t (Found s e) x)) 24 0
   own-first = ap₂ (λ (c : Bool) (r : Referent). cond (not (c || inReach t r x)) 24 0) (inside-is t m a tab p i s e f) f
@@ -158,7 +171,7 @@ module _ {t m : ℕ} {a tab : List ℕ} {p i s e : ℕ} (g : Ready t m (Step p i
   by-steps =
       cases b (inReach t (Found s e) x)
       ∙ ap₂ (λ (k v : ℕ). settled k (heapOf a tab) v (heapOf a tab))
-      (sym (ready-first t m (Step p i) a tab g ∙ home-first g p (24 when beyond v p i ∷ []) refl l ∙ own-first))
+      (sym (ready-first t m (Step p i) a tab g ∙ judged-last ∙ own-first))
       (ap (λ (c : Bool). pointerAt c x) (sym (inside-is t m a tab p i s e f)))
     where
       cases : (c r : Bool)
@@ -173,9 +186,8 @@ module _ {t m : ℕ} {a tab : List ℕ} {p i s e : ℕ} (g : Ready t m (Step p i
       → outcome r a tab ≡ heapStep t m (Step p i) (heapOf a tab)
   step-done u w y = rw (y, u, w) by-steps
 
--- the check, of a plain address in a heap that is sound; `locate` finds l
-module _ {t m : ℕ} {a tab : List ℕ} (g : Sound t m a tab) (p i : ℕ) (n : marked p ≡ false) {l : Located}
-    (found : l ≡ located (heapView t m (heapOf [] tab)) p) where
+-- the check, in a heap that is sound; `locate_plain` finds l
+module _ {t m : ℕ} {a tab : List ℕ} (g : Sound t m a tab) (p i : ℕ) {l : Located} (found : l ≡ locatedPlain (heapView t m (heapOf [] tab)) p) where
   abbrev y : View
   y = heapView t m (heapOf a tab)
 
@@ -183,27 +195,30 @@ module _ {t m : ℕ} {a tab : List ℕ} (g : Sound t m a tab) (p i : ℕ) (n : m
   abbrev told : ℕ → Bool → Answer
   told k b = settled k (heapOf a tab) (bit b) (heapOf a tab) .answer
 
-  address-first : first (addressRules y p) ≡ first (homeRules y p)
+  address-first : first (addressRules y p) ≡ first (plainRules y p)
   unfolding addressRules
-  address-first = rw (sizes-right t a tab (sound-sized t a tab g), n, g .whole)
+  address-first = rw (sizes-right t a tab (sound-sized t a tab g), g .whole)
 
-  check-is : told (first (homeRules y p)) (y .inside p i) ≡ checkStep t m p i (heapOf a tab)
+  check-is : told (first (plainRules y p)) (y .inside p i) ≡ checkStep t m p i (heapOf a tab)
   unfolding checkStep
   check-is = ap (λ (k : ℕ). told k (y .inside p i)) (sym address-first)
 
-  pub check-missing : {k : ℕ} → l ≡ Refused k → {r : Answer} → r ≡ answer k 0 → r ≡ checkStep t m p i (heapOf a tab)
-  check-missing {k} is u =
-      let (e, w) = located-refused y p k (sym found ∙ is) in
+  pub check-led-refused : {k : ℕ} → l ≡ Refused k → {r : Answer} → r ≡ answer k 0 → r ≡ checkStep t m p i (heapOf a tab)
+  check-led-refused {k} is u =
+      let (e, w) = plain-to-number y p k (sym found ∙ is) in
       u ∙ ap (λ (o : Outcome Heap). o .answer) (settled-refused k (heapOf a tab) (bit (y .inside p i)) (heapOf a tab) w)
       ∙ ap (λ (j : ℕ). told j (y .inside p i)) (sym e) ∙ check-is
 
   module _ {s e : ℕ} (is : l ≡ Inside s e) where
+    at-block : (first (plainRules y p) ≡ 0) × (referentOfPointer y p ≡ Found s e)
+    at-block = plain-inside y p (sym found ∙ is)
+
     pub check-order : e < 32
-    check-order = omega (arith, found-within t m a tab g p _ _ (located-inside y p (sym found ∙ is) .1) .order)
+    check-order = omega (arith, found-within t m a tab g p _ _ (at-block .1) .order)
 
     pub check-found : {b : Bool} → b ≡ checkBits e p (wrappedSum p i) → {r : Answer} → r ≡ answer 0 (bit b) → r ≡ checkStep t m p i (heapOf a tab)
     unfolding sought
     check-found q u =
-        let (k, f) = located-inside y p (sym found ∙ is) in
-        let h : checkBits e (fromZero (sought t p)) (wrappedSum (address p) i) ≡ checkBits e p (wrappedSum p i) = rw n in
+        let (k, f) = at-block in
+        let h : checkBits e (fromZero (sought t p)) (wrappedSum (address p) i) ≡ checkBits e p (wrappedSum p i) = rw (is-plain y p k) in
         u ∙ ap₂ told (sym k) (q ∙ sym h ∙ sym (inside-is t m a tab p i s e f)) ∙ check-is

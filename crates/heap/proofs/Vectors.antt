@@ -53,18 +53,18 @@ calls-047 =
     ∷ shows 65536 0 (replicate 64 0)
     ∷ answers (Get 17) 21 0
     ∷ shows 65544 0 (replicate 56 0)
-    ∷ answers (Read 65536 4) 0 0 ∷ shows 2147745774 13 [] ∷ answers (Read 65528 1) 27 0
+    ∷ answers (Read 65536 4) 0 0 ∷ shows 2147745774 27 [] ∷ answers (Read 65528 1) 27 0
     ∷ shows 65536 0 (replicate 64 0)
     ∷ answers (Write 262152 3 955000842) 11 0
     ∷ shows 65536 0 (replicate 64 0)
     ∷ freshens 0 ∷ shows 65536 22 [] ∷ answers (Give 65552) 22 0 ∷ shows 65544 22 [] ∷ answers (Write 65536 4 65536) 22 0 ∷ shows 65536 22 []
-    ∷ freshens 0 ∷ shows 2147745778 13 [] ∷ answers (Step 65566 9) 22 0 ∷ shows 65588 22 [] ∷ answers (Read 65536 0) 11 0 ∷ shows 65536 22 []
+    ∷ freshens 0 ∷ shows 2147745778 27 [] ∷ answers (Step 65566 9) 22 0 ∷ shows 65588 22 [] ∷ answers (Read 65536 0) 11 0 ∷ shows 65536 22 []
     ∷ answers (Give 65534) 27 0 ∷ shows 65545 22 [] ∷ answers (Give 65536) 22 0 ∷ shows 65528 27 [] ∷ answers (Give 65536) 22 0
     ∷ shows 65544 22 [] ∷ pokes 1 0 ∷ answers (Get 1) 0 65536 ∷ pokes 1 0 ∷ answers (Get 37) 21 0 ∷ answers (Get 17) 0 65568 ∷ shows 1 27 []
     ∷ answers (Give 65536) 0 0
     ∷ shows 65574 0 (replicate 26 0) ∷ pokes 1 128
-    ∷ answers (Give 65568) 20 0 ∷ pokes 1 0 ∷ answers (Get 16) 0 65536 ∷ shows 3584167078 13 [] ∷ answers (Give 65570) 23 0
-    ∷ shows 65551 0 (0 ∷ []) ∷ checks 65519 17 27 0 ∷ shows 2147549262 13 [] ∷ answers (Get 16) 0 65552
+    ∷ answers (Give 65568) 20 0 ∷ pokes 1 0 ∷ answers (Get 16) 0 65536 ∷ shows 3584167078 27 [] ∷ answers (Give 65570) 23 0
+    ∷ shows 65551 0 (0 ∷ []) ∷ checks 65519 17 27 0 ∷ shows 2147549262 27 [] ∷ answers (Get 16) 0 65552
     ∷ shows 65552 0 (replicate 16 0) ∷ answers (Get 16) 21 0
     ∷ shows 65541 0 (replicate 11 0) ∷ answers (Step 2147745805 2247109860) 27 0
     ∷ shows 65536 0 (replicate 16 0) ∷ answers (Write 2147745781 1 65536) 12 0
@@ -74,15 +74,15 @@ calls-047 =
     ∷ shows 65536 0 (replicate 16 0) ∷ answers (Left 262135) 27 0
     ∷ shows 65585 0 (replicate 15 0) ∷ answers (Write 65549 4 256) 25 0
     ∷ shows 65568 0 (replicate 32 0)
-    ∷ checks 2147745806 2537399657 13 0 ∷ shows 65598 0 (0 ∷ 0 ∷ []) ∷ answers (Get 1020249951) 10 0
+    ∷ checks 2147745806 2537399657 27 0 ∷ shows 65598 0 (0 ∷ 0 ∷ []) ∷ answers (Get 1020249951) 10 0
     ∷ shows 65543 0 (replicate 9 0) ∷ checks 2147549192 4294967279 13 0
     ∷ shows 65568 0 (replicate 32 0)
     ∷ answers (Get 17) 21 0 ∷ shows 65536 0 (replicate 16 0) ∷ answers (Fill 65536 86 1) 0 1
     ∷ shows 65554 0 (replicate 14 0) ∷ answers (Give 65567) 23 0
-    ∷ shows 65545 0 (replicate 7 0) ∷ answers (Left 2147483663) 13 0 ∷ shows 65543 0 (replicate 9 0)
+    ∷ shows 65545 0 (replicate 7 0) ∷ answers (Left 2147483663) 27 0 ∷ shows 65543 0 (replicate 9 0)
     ∷ answers (Fill 2147549206 4 65) 13 0 ∷ shows 65552 0 (replicate 16 0)
-    ∷ answers (Write 65568 0 3328590856) 11 0 ∷ shows 2147745796 13 [] ∷ answers (Left 65559) 0 9 ∷ shows 2147549192 13 []
-    ∷ answers (Get 3875554917) 10 0 ∷ shows 2147549205 13 [] ∷ answers (Give 65580) 23 0 ∷ shows 2147549185 13 [] ∷ answers (Get 64) 21 0
+    ∷ answers (Write 65568 0 3328590856) 11 0 ∷ shows 2147745796 27 [] ∷ answers (Left 65559) 0 9 ∷ shows 2147549192 13 []
+    ∷ answers (Get 3875554917) 10 0 ∷ shows 2147549205 13 [] ∷ answers (Give 65580) 23 0 ∷ shows 2147549185 27 [] ∷ answers (Get 64) 21 0
     ∷ shows 65551 0 (0 ∷ []) ∷ answers (Copy 65548 65600 3) 27 0
     ∷ shows 65536 0 (86 ∷ replicate 15 0)
     ∷ arenaIs (86 ∷ replicate 63 0)
@@ -113,14 +113,14 @@ unfolding holdAt
 rotated = refl
 
 -- Request 6: two slots, the first taken. Either end of the arena; marked pointers that are sought in the block, at the free slot, outside on both sides and
--- below 0; copies with one pointer outside, whichever it is, or none; and what is judged before: the mark and a damaged table.
+-- below 0; copies with one pointer outside, whichever it is, or none; and a damaged table, which is judged before.
 which-missing : holdAt
     (answers (Get 16) 0 65536 ∷ answers (Left 65535) 27 0 ∷ answers (Left 65552) 22 0 ∷ answers (Left 65567) 22 0 ∷ answers (Left 65568) 27 0
     ∷ answers (Give 65552) 22 0 ∷ answers (Give 65568) 27 0 ∷ answers (Read 65568 1) 27 0 ∷ answers (Write 0 1 0) 27 0 ∷ answers (Fill 65568 1 0) 27 0
     ∷ answers (Step 2147549176 8) 0 65536 ∷ answers (Step 2147549223 0) 22 0 ∷ answers (Step 2147549175 9) 27 0 ∷ answers (Step 2147549224 0) 27 0
     ∷ answers (Step 2147483655 0) 27 0 ∷ answers (Copy 65552 65568 1) 27 0 ∷ answers (Copy 65568 65552 1) 27 0 ∷ answers (Copy 65536 65535 0) 27 0
     ∷ answers (Copy 65536 65552 1) 22 0 ∷ answers (Copy 65552 65536 1) 22 0 ∷ checks 65552 0 22 0 ∷ checks 65568 0 27 0 ∷ shows 65567 22 []
-    ∷ shows 65568 27 [] ∷ answers (Left 2147483655) 13 0 ∷ pokes 1 1 ∷ answers (Left 65568) 20 0 ∷ [])
+    ∷ shows 65568 27 [] ∷ answers (Left 2147483655) 27 0 ∷ pokes 1 1 ∷ answers (Left 65568) 20 0 ∷ [])
     (freshHeap 5) ≡ true
 unfolding holdAt
 which-missing = refl
@@ -135,11 +135,34 @@ locked-blocks : holdAt
     ∷ answers (Step 65536 39) 0 2147549223 ∷ checks 65536 31 0 1 ∷ checks 65536 32 0 0 ∷ shows 65560 0 (replicate 8 0) ∷ answers (Get 17) 21 0
     ∷ answers (Get 1) 0 65584 ∷ tableIs (133 ∷ 133 ∷ 4 ∷ 4 ∷ []) ∷ answers (SetLock 65552 false) 0 0 ∷ answers (Write 65536 1 7) 0 0
     ∷ answers (Give 65536) 0 0 ∷ tableIs (0 ∷ 0 ∷ 4 ∷ 4 ∷ []) ∷ answers (SetLock 65536 true) 22 0 ∷ answers (SetLock 65600 false) 27 0
-    ∷ answers (SetLock 2147549216 true) 13 0 ∷ pokes 1 128 ∷ answers (SetLock 65568 true) 20 0 ∷ pokes 1 131 ∷ answers (Left 65568) 20 0
+    ∷ answers (SetLock 2147549232 true) 13 0 ∷ pokes 1 128 ∷ answers (SetLock 65568 true) 20 0 ∷ pokes 1 131 ∷ answers (Left 65568) 20 0
     ∷ pokes 1 135 ∷ answers (Get 1) 20 0 ∷ pokes 1 133 ∷ answers (Left 65568) 20 0 ∷ pokes 1 132 ∷ answers (Fill 65552 1 1) 28 0 ∷ [])
     (freshHeap 6) ≡ true
 unfolding holdAt
 locked-blocks = refl
+
+-- Request 8: two slots, the first taken. In each call a marked pointer is refused by its mark where it is sought in the block, by 22 at the free slot and by 27
+-- outside; a copy by what is judged first of its two; the width and the value come before all that, and the mark before the block's end, its start and its
+-- lock. A step is not refused by the mark. In a damaged table each is 20, but for a width.
+dead-and-marked : holdAt
+    (answers (Get 16) 0 65536 ∷ answers (Left 2147549200) 13 0 ∷ answers (Left 2147549183) 13 0 ∷ answers (Left 2147549216) 22 0
+    ∷ answers (Left 2147549175) 27 0 ∷ answers (Left 2147483648) 27 0 ∷ answers (Give 2147549200) 13 0 ∷ answers (Give 2147549216) 22 0
+    ∷ answers (Give 2147549175) 27 0 ∷ answers (Read 2147549200 4) 13 0 ∷ answers (Read 2147549216 1) 22 0 ∷ answers (Read 2147549175 1) 27 0
+    ∷ answers (Read 2147549216 3) 11 0 ∷ answers (Write 2147549200 4 9) 13 0 ∷ answers (Write 2147549216 1 9) 22 0 ∷ answers (Write 2147549175 1 9) 27 0
+    ∷ answers (Write 2147549216 3 9) 11 0 ∷ answers (Write 2147549175 1 256) 12 0 ∷ answers (Fill 2147549200 9 1) 13 0 ∷ answers (Fill 2147549216 9 0) 22 0
+    ∷ answers (Fill 2147549175 9 1) 27 0 ∷ answers (SetLock 2147549200 true) 13 0 ∷ answers (SetLock 2147549216 false) 22 0
+    ∷ answers (SetLock 2147549175 true) 27 0 ∷ checks 2147549200 0 13 0 ∷ checks 2147549216 0 22 0 ∷ checks 2147549175 0 27 0 ∷ shows 2147549200 13 []
+    ∷ shows 2147549216 22 [] ∷ shows 2147549175 27 [] ∷ answers (Copy 2147549200 65536 1) 13 0 ∷ answers (Copy 65536 2147549200 1) 13 0
+    ∷ answers (Copy 2147549200 65552 1) 22 0 ∷ answers (Copy 65552 2147549200 1) 22 0 ∷ answers (Copy 2147549200 65568 1) 27 0
+    ∷ answers (Copy 65568 2147549216 0) 27 0 ∷ answers (Step 2147549200 4294967288) 0 65544 ∷ answers (Step 2147549216 0) 22 0
+    ∷ answers (SetLock 65536 true) 0 0 ∷ answers (Give 2147549200) 13 0 ∷ answers (Write 2147549200 1 9) 13 0 ∷ answers (Fill 2147549200 9 0) 13 0
+    ∷ answers (Copy 2147549200 65536 0) 13 0 ∷ pokes 1 1 ∷ answers (Left 2147549200) 20 0 ∷ answers (Give 2147549200) 20 0
+    ∷ answers (Read 2147549216 1) 20 0 ∷ answers (Write 2147549175 1 9) 20 0 ∷ answers (Fill 2147549200 9 1) 20 0 ∷ answers (SetLock 2147549200 true) 20 0
+    ∷ answers (Step 2147549200 0) 20 0 ∷ answers (Copy 2147549216 2147549175 1) 20 0
+    ∷ answers (Read 2147549200 3) 11 0 ∷ checks 2147549175 0 20 0 ∷ shows 2147549216 20 [] ∷ [])
+    (freshHeap 5) ≡ true
+unfolding holdAt
+dead-and-marked = refl
 
 -- lengths that are no heap's: 48 bytes, and a table of one entry too many
 wrong-arena : holdAt (answers (Get 1) 8 0 ∷ freshens 8 ∷ checks 65536 0 8 0 ∷ shows 65536 8 [] ∷ []) (heapOf (replicate 48 7) (replicate 3 0)) ≡ true

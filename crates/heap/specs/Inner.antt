@@ -14,7 +14,7 @@ use Rattle.blocks.specs.declared.Referent.{Referent}
 use Rattle.blocks.specs.declared.Referent.the-variants.{Missing, Found}
 use Rattle.blocks.specs.Orders.{orderOf}
 use Rattle.heap.specs.Views.{View, referentOfPointer}
-use Rattle.heap.specs.Rules.{argumentRules, homeRules}
+use Rattle.heap.specs.Rules.{argumentRules, homeRules, plainRules}
 use Rattle.heap.specs.Effects.{pointerAt, accepted, refused}
 use Rattle.heap.specs.Heaps.{heapOf, wrongSizes}
 use Rattle.heap.specs.declared.Answer.{Answer}
@@ -53,6 +53,10 @@ locatedBy (suc n) r = Refused (suc n)
 
 abbrev pub located : View → ℕ → Located
 located w p = locatedBy (first (homeRules w p)) (referentOfPointer w p)
+
+-- the same of a pointer that must be plain
+abbrev pub locatedPlain : View → ℕ → Located
+locatedPlain w p = locatedBy (first (plainRules w p)) (referentOfPointer w p)
 
 -- the number, 0 for a block
 abbrev pub numberIn : Located → ℕ

@@ -3,6 +3,7 @@ pub mod Rules
 pub mod Changes
 pub mod Effects
 pub mod MissingKinds
+pub mod DeadAndMarked
 pub mod Heaps
 pub mod Locking
 pub mod Inner

@@ -32,9 +32,9 @@ freeAt w (negsuc n) = false
 abbrev pub atFreeSlot : View → ℕ → Bool
 atFreeSlot w p = freeAt w (sought (w .slot) p)
 
--- the numbers that are judged before a home is asked for
+-- the numbers that are judged before a home is asked for: a write has them all (`judged-before` in heap/proofs)
 abbrev pub judgedBefore : List ℕ
-judgedBefore = 8 ∷ 10 ∷ 11 ∷ 12 ∷ 13 ∷ 20 ∷ []
+judgedBefore = 8 ∷ 11 ∷ 12 ∷ 20 ∷ []
 
 pub record Tells (w : View) (ps : List ℕ) (number : ℕ) : Type 0 where
   -- 27: a pointer is sought outside the arena. 22: none is, and one is sought at a free slot.

@@ -194,9 +194,6 @@ pub fn check(arena: &[u8], table: &[u8], p: u32, i: u32) -> Answer
     if m == 0 {
         return answers::refused(8);
     }
-    if blocks::is_marked(p) {
-        return answers::refused(13);
-    }
     if blocks::damaged(table, SLOT_ORDER, m) {
         return answers::refused(20);
     }

@@ -9,9 +9,9 @@ ghost use lib.Dec.{leb};
 ghost use lib.ListN.{length};
 ghost use Rattle.common.specs.Refusals.{_when_, first};
 ghost use Rattle.blocks.specs.Tables.{damagedBy};
-ghost use Rattle.heap.specs.Rules.{badWidth, plainRules, argumentRules};
+ghost use Rattle.heap.specs.Rules.{badWidth, argumentRules};
 ghost use Rattle.heap.specs.Heaps.{heapOf, heapView};
-ghost use Rattle.heap.specs.Inner.{beforeCall, located, numberIn};
+ghost use Rattle.heap.specs.Inner.{beforeCall, located, locatedPlain, numberIn};
 
 fn bad_width(w: u8) -> bool
     ensures { λ b. ⌜ b ≡ badWidth w ⌝ }
@@ -43,22 +43,13 @@ fn too_wide(v: u32, w: u8) -> bool
 }
 
 // The refusal of a read's or a write's arguments.
-fn access(p: u32, w: u8, v: u32) -> u32
-    ensures { λ r. ⌜ r ≡ first (11 when badWidth w ∷ 12 when leb (256 ^ w) v ∷ plainRules p) ⌝ }
+fn access(w: u8, v: u32) -> u32
+    ensures { λ r. ⌜ r ≡ first (11 when badWidth w ∷ 12 when leb (256 ^ w) v ∷ []) ⌝ }
 {
     if bad_width(w) {
         return 11;
     }
-    if too_wide(v, w) {
-        return 12;
-    }
-    plain(p)
-}
-
-fn plain(p: u32) -> u32
-    ensures { λ r. ⌜ r ≡ first (plainRules p) ⌝ }
-{
-    if blocks::is_marked(p) { 13 } else { 0 }
+    if too_wide(v, w) { 12 } else { 0 }
 }
 
 fn request(m: u32, n: u32) -> u32
@@ -74,21 +65,21 @@ fn request(m: u32, n: u32) -> u32
     0
 }
 
-// The refusal of a call by its arguments alone, 0 for none.
+// The refusal of a call by its arguments alone, 0 for none. What refuses a pointer depends on where it leads, and is judged later (`locate_plain`).
 pub fn arguments(m: u32, c: Call) -> u32
     requires { ⌜ m ≤ 16 ⌝ }
     ensures { λ r. ⌜ r ≡ first (argumentRules m c) ⌝ }
 {
     match c {
         Call::Get(n) => request(m, n),
-        Call::Give(p) => plain(p),
+        Call::Give(_) => 0,
         Call::Step(_, _) => 0,
-        Call::Read(p, w) => access(p, w, 0),
-        Call::Write(p, w, v) => access(p, w, v),
-        Call::Left(p) => plain(p),
-        Call::Copy(p, q, _) => if blocks::is_marked(p) { 13 } else { plain(q) },
-        Call::Fill(p, _, _) => plain(p),
-        Call::SetLock(p, _) => plain(p),
+        Call::Read(_, w) => access(w, 0),
+        Call::Write(_, w, v) => access(w, v),
+        Call::Left(_) => 0,
+        Call::Copy(_, _, _) => 0,
+        Call::Fill(_, _, _) => 0,
+        Call::SetLock(_, _) => 0,
     }
 }
 
@@ -127,6 +118,22 @@ pub fn locate(table: &[u8], t: u32, m: u32, p: u32) -> Located
             Located::Refused(22)
         }
         Referent::Found(s, e) => Located::Inside(s, e),
+    }
+}
+
+// The same where the pointer must be plain, so in every call but step: a marked one that has a referent is refused 13.
+pub fn locate_plain(table: &[u8], t: u32, m: u32, p: u32) -> Located
+    requires { ⌜ (1 ≤ t) × (t ≤ m) × (m ≤ 16) × (length (now table) ≡ 2 ^ (m - t)) × (damagedBy t m (now table) ≡ false) ⌝ }
+    ensures { λ r. ⌜ r ≡ locatedPlain (heapView t m (heapOf [] (now (table .entry)))) p ⌝ }
+{
+    match locate(table, t, m, p) {
+        Located::Refused(number) => Located::Refused(number),
+        Located::Inside(s, e) => {
+            if blocks::is_marked(p) {
+                return Located::Refused(13);
+            }
+            Located::Inside(s, e)
+        }
     }
 }
 

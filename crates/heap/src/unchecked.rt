@@ -1,11 +1,12 @@
 // The calls once their input has been judged: the lengths fit, the table is undamaged, the arguments are in range. What is left to refuse
-// depends on the blocks (21, 27, 22 to 25, 28). A slot has 2^t bytes. A run calls `call`, and never scans the table.
+// depends on the blocks and the mark (21, 27, 22, 13, 23 to 25, 28). A slot has 2^t bytes. A run calls `call`, and never scans the table.
 use crate::Answer;
 use crate::Call;
 use crate::answers::accepted;
 use crate::answers::refused;
 use crate::refusals::Located;
 use crate::refusals::locate;
+use crate::refusals::locate_plain;
 use crate::refusals::number_of;
 use blocks::BASE;
 use blocks::MARK;
@@ -13,8 +14,6 @@ use blocks::Place;
 use blocks::Referent;
 ghost use mathlib.Core.Path.{_≡_};
 ghost use Prim.Native.Nat.{_+_, _-_, _^_, _≤_, _<_, min, max};
-ghost use mathlib.Core.Bool.{false};
-ghost use Rattle.blocks.specs.Pointers.{marked};
 ghost use Rattle.blocks.specs.Blocks.{base, leftIn};
 ghost use Rattle.heap.specs.Heaps.{heapOf, outcome, heapStep, checkStep};
 ghost use Rattle.heap.specs.Inner.{Sound, Ready, Holding, steppedIn};
@@ -72,7 +71,7 @@ pub fn give(arena: &[u8], table: &mut [u8], t: u32, m: u32, p: u32) -> Answer
     requires { ⌜ Ready t m (Call.Give p) (now arena) (now table) ⌝ }
     ensures { λ r. ⌜ outcome r (now (arena .entry)) (now (table .exit)) ≡ heapStep t m (Call.Give p) (heapOf (now (arena .entry)) (now (table .entry))) ⌝ }
 {
-    match locate(table, t, m, p) {
+    match locate_plain(table, t, m, p) {
         Located::Refused(number) => refused(number),
         Located::Inside(s, e) => {
             if s != p {
@@ -128,7 +127,7 @@ pub fn read(arena: &[u8], table: &[u8], t: u32, m: u32, p: u32, w: u8) -> Answer
     requires { ⌜ Ready t m (Call.Read p w) (now arena) (now table) ⌝ }
     ensures { λ r. ⌜ outcome r (now (arena .entry)) (now (table .entry)) ≡ heapStep t m (Call.Read p w) (heapOf (now (arena .entry)) (now (table .entry))) ⌝ }
 {
-    match locate(table, t, m, p) {
+    match locate_plain(table, t, m, p) {
         Located::Refused(number) => refused(number),
         Located::Inside(s, e) => {
             let width = w as usize;
@@ -144,7 +143,7 @@ pub fn write(arena: &mut [u8], table: &[u8], t: u32, m: u32, p: u32, w: u8, v: u
     requires { ⌜ Ready t m (Call.Write p w v) (now arena) (now table) ⌝ }
     ensures { λ r. ⌜ outcome r (now (arena .exit)) (now (table .entry)) ≡ heapStep t m (Call.Write p w v) (heapOf (now (arena .entry)) (now (table .entry))) ⌝ }
 {
-    match locate(table, t, m, p) {
+    match locate_plain(table, t, m, p) {
         Located::Refused(number) => refused(number),
         Located::Inside(s, e) => {
             let size = w as usize;
@@ -164,20 +163,24 @@ pub fn left(arena: &[u8], table: &[u8], t: u32, m: u32, p: u32) -> Answer
     requires { ⌜ Ready t m (Call.Left p) (now arena) (now table) ⌝ }
     ensures { λ r. ⌜ outcome r (now (arena .entry)) (now (table .entry)) ≡ heapStep t m (Call.Left p) (heapOf (now (arena .entry)) (now (table .entry))) ⌝ }
 {
-    match locate(table, t, m, p) {
+    match locate_plain(table, t, m, p) {
         Located::Refused(number) => refused(number),
         Located::Inside(s, e) => accepted(left_in(s, e, p)),
     }
 }
 
-// Either pointer's refusal refuses the copy. The greater number counts, since 27 is judged before 22; a pointer that leads to a block counts as 0.
+// Either pointer's refusal refuses the copy. The greater number counts, since 27 is judged before 22, and 22 before 13; a pointer that leads to a block
+// counts as 0.
 pub fn copy(arena: &mut [u8], table: &[u8], t: u32, m: u32, p: u32, q: u32, n: u32) -> Answer
     requires { ⌜ Ready t m (Call.Copy p q n) (now arena) (now table) ⌝ }
     ensures { λ r. ⌜ outcome r (now (arena .exit)) (now (table .entry)) ≡ heapStep t m (Call.Copy p q n) (heapOf (now (arena .entry)) (now (table .entry))) ⌝ }
 {
-    match locate(table, t, m, p) {
-        Located::Refused(number) => refused(greatest(number, number_of(locate(table, t, m, q)))),
-        Located::Inside(s, e) => match locate(table, t, m, q) {
+    match locate_plain(table, t, m, p) {
+        Located::Refused(number) => refused(greatest(
+            number,
+            number_of(locate_plain(table, t, m, q)),
+        )),
+        Located::Inside(s, e) => match locate_plain(table, t, m, q) {
             Located::Refused(other) => refused(other),
             Located::Inside(z, k) => {
                 if blocks::is_locked(table, t, p) {
@@ -195,7 +198,7 @@ pub fn fill(arena: &mut [u8], table: &[u8], t: u32, m: u32, p: u32, v: u8, n: u3
     requires { ⌜ Ready t m (Call.Fill p v n) (now arena) (now table) ⌝ }
     ensures { λ r. ⌜ outcome r (now (arena .exit)) (now (table .entry)) ≡ heapStep t m (Call.Fill p v n) (heapOf (now (arena .entry)) (now (table .entry))) ⌝ }
 {
-    match locate(table, t, m, p) {
+    match locate_plain(table, t, m, p) {
         Located::Refused(number) => refused(number),
         Located::Inside(s, e) => {
             if blocks::is_locked(table, t, p) {
@@ -213,7 +216,7 @@ pub fn set_lock(arena: &[u8], table: &mut [u8], t: u32, m: u32, p: u32, locked: 
     ensures { λ r. ⌜ outcome r (now (arena .entry)) (now (table .exit))
         ≡ heapStep t m (Call.SetLock p locked) (heapOf (now (arena .entry)) (now (table .entry))) ⌝ }
 {
-    match locate(table, t, m, p) {
+    match locate_plain(table, t, m, p) {
         Located::Refused(number) => refused(number),
         Located::Inside(s, e) => {
             let first = offset(s) >> t;
@@ -224,12 +227,12 @@ pub fn set_lock(arena: &[u8], table: &mut [u8], t: u32, m: u32, p: u32, locked: 
     }
 }
 
-// The check of a plain address.
+// The check of an address.
 pub fn check(arena: &[u8], table: &[u8], t: u32, m: u32, p: u32, i: u32) -> Answer
-    requires { ⌜ Sound t m (now arena) (now table) × (marked p ≡ false) ⌝ }
+    requires { ⌜ Sound t m (now arena) (now table) ⌝ }
     ensures { λ r. ⌜ r ≡ checkStep t m p i (heapOf (now (arena .entry)) (now (table .entry))) ⌝ }
 {
-    match locate(table, t, m, p) {
+    match locate_plain(table, t, m, p) {
         Located::Refused(number) => refused(number),
         Located::Inside(_, e) => accepted(if blocks::passes(p, p, i, e) { 1 } else { 0 }),
     }

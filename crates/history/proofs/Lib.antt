@@ -11,6 +11,7 @@ pub mod CallLists
 pub mod Checking
 pub mod Room
 pub mod MissingKinds
+pub mod DeadAndMarked
 pub mod Demand3
 pub mod Encoding
 pub mod Replaying

@@ -193,6 +193,22 @@ impl Subject for Literal {
     }
 }
 
+/// Feeds a file's records, up to the first bad one, to a fresh ledger of order m, and shows each call with the ledger
+/// before it and its number.
+pub fn each_record(file: &[u8], m: u32, mut met: impl FnMut(&Ledger, Call, u32)) {
+    let (mut heap, mut registers, mut at) = (Ledger::new(m), [0; 16], 2);
+    while let Ok((record, next)) = takes::read(file, at) {
+        at = next;
+        let (call, d) = call_of(record, &registers);
+        let before = heap.clone();
+        let Answer { number, value } = heap.feed(call);
+        met(&before, call, number);
+        if let (0, Some(d)) = (number, d) {
+            registers[usize::from(d)] = value;
+        }
+    }
+}
+
 /// The call that a record makes, and the register that takes its value.
 pub fn call_of(record: Record, registers: &[u32; 16]) -> (Call, Option<u8>) {
     let held = |r: u8| registers[usize::from(r)];

@@ -46,14 +46,6 @@ fn lengths<const KNOWN: bool>(arena: &[u8], table: &[u8]) -> Result<u32, Refusal
     }
 }
 
-fn plain(p: u32) -> Result<(), Refusal> {
-    if p & MARK == 0 {
-        Ok(())
-    } else {
-        Err(Marked)
-    }
-}
-
 fn intact<const KNOWN: bool>(table: &[u8], m: u32) -> Result<(), Refusal> {
     if KNOWN || !damaged(table, m) {
         Ok(())
@@ -115,14 +107,24 @@ fn referent(table: &[u8], p: u32) -> Result<Block, Refusal> {
     }
 }
 
+/// The referent of a pointer that must be plain. That a marked one has none is told before that it is marked.
+fn plain_referent(table: &[u8], p: u32) -> Result<Block, Refusal> {
+    let block = referent(table, p)?;
+    if p & MARK == 0 {
+        Ok(block)
+    } else {
+        Err(Marked)
+    }
+}
+
 /// Where a plain pointer with a referent points to, and the bytes from there to the referent's end.
 fn place(table: &[u8], p: u32) -> Result<(usize, usize), Refusal> {
-    let block = block_at(table, p)?;
+    let block = plain_referent(table, p)?;
     let at = (p - BASE) as usize;
     Ok((at, block.end() - at))
 }
 
-/// Judged last, so p has a referent, and its slot the entry of that block.
+/// Judged last, so p is plain and has a referent, and its slot the entry of that block.
 fn unlocked(table: &[u8], p: u32) -> Result<(), Refusal> {
     if table[(p - BASE) as usize / SLOT] & LOCK == 0 {
         Ok(())
@@ -131,11 +133,13 @@ fn unlocked(table: &[u8], p: u32) -> Result<(), Refusal> {
     }
 }
 
-/// The places of a copy's two pointers: one outside the arena is told before one at a free slot, whichever it is.
+/// The places of a copy's two pointers: one outside the arena is told before one at a free slot, and that before a marked
+/// one, whichever it is.
 fn places(table: &[u8], p: u32, q: u32) -> Result<[(usize, usize); 2], Refusal> {
     match (place(table, p), place(table, q)) {
         (Ok(to), Ok(from)) => Ok([to, from]),
         (Err(Outside), _) | (_, Err(Outside)) => Err(Outside),
+        (Err(FreeSlot), _) | (_, Err(FreeSlot)) => Err(FreeSlot),
         (Err(refusal), _) | (_, Err(refusal)) => Err(refusal),
     }
 }
@@ -194,9 +198,8 @@ pub fn get<const KNOWN: bool>(arena: &mut [u8], table: &mut [u8], n: u32) -> Out
 
 pub fn give<const KNOWN: bool>(arena: &[u8], table: &mut [u8], p: u32) -> Outcome {
     let m = lengths::<KNOWN>(arena, table)?;
-    plain(p)?;
     intact::<KNOWN>(table, m)?;
-    let block = block_at(table, p)?;
+    let block = plain_referent(table, p)?;
     if (p - BASE) as usize != block.start {
         return Err(NotTheStart);
     }
@@ -232,7 +235,6 @@ fn width(w: u8) -> Result<usize, Refusal> {
 pub fn read<const KNOWN: bool>(arena: &[u8], table: &[u8], p: u32, w: u8) -> Outcome {
     let m = lengths::<KNOWN>(arena, table)?;
     let w = width(w)?;
-    plain(p)?;
     intact::<KNOWN>(table, m)?;
     let (at, left) = place(table, p)?;
     if w > left {
@@ -252,7 +254,6 @@ pub fn write<const KNOWN: bool>(arena: &mut [u8], table: &[u8], p: u32, w: u8, v
     if u64::from(v) >> (8 * w) != 0 {
         return Err(ValueTooWide);
     }
-    plain(p)?;
     intact::<KNOWN>(table, m)?;
     let (at, left) = place(table, p)?;
     if w > left {
@@ -270,7 +271,6 @@ pub fn write<const KNOWN: bool>(arena: &mut [u8], table: &[u8], p: u32, w: u8, v
 
 pub fn left<const KNOWN: bool>(arena: &[u8], table: &[u8], p: u32) -> Outcome {
     let m = lengths::<KNOWN>(arena, table)?;
-    plain(p)?;
     intact::<KNOWN>(table, m)?;
     let (_, left) = place(table, p)?;
     Ok(left as u32)
@@ -278,8 +278,6 @@ pub fn left<const KNOWN: bool>(arena: &[u8], table: &[u8], p: u32) -> Outcome {
 
 pub fn copy<const KNOWN: bool>(arena: &mut [u8], table: &[u8], p: u32, q: u32, n: u32) -> Outcome {
     let m = lengths::<KNOWN>(arena, table)?;
-    plain(p)?;
-    plain(q)?;
     intact::<KNOWN>(table, m)?;
     let [(to, room), (from, held)] = places(table, p, q)?;
     unlocked(table, p)?;
@@ -290,7 +288,6 @@ pub fn copy<const KNOWN: bool>(arena: &mut [u8], table: &[u8], p: u32, q: u32, n
 
 pub fn fill<const KNOWN: bool>(arena: &mut [u8], table: &[u8], p: u32, v: u8, n: u32) -> Outcome {
     let m = lengths::<KNOWN>(arena, table)?;
-    plain(p)?;
     intact::<KNOWN>(table, m)?;
     let (at, left) = place(table, p)?;
     unlocked(table, p)?;
@@ -310,9 +307,8 @@ pub fn unlock<const KNOWN: bool>(arena: &[u8], table: &mut [u8], p: u32) -> Outc
 /// Gives every slot of p's block its order again, with the bit or without it.
 fn set_lock<const KNOWN: bool>(arena: &[u8], table: &mut [u8], p: u32, bit: u8) -> Outcome {
     let m = lengths::<KNOWN>(arena, table)?;
-    plain(p)?;
     intact::<KNOWN>(table, m)?;
-    let block = block_at(table, p)?;
+    let block = plain_referent(table, p)?;
     table[block.start / SLOT..block.end() / SLOT].fill(block.order as u8 | bit);
     Ok(0)
 }
@@ -320,9 +316,8 @@ fn set_lock<const KNOWN: bool>(arena: &[u8], table: &mut [u8], p: u32, bit: u8) 
 /// 1 if the sum of h and i lies in h's block, by the xor of both, shifted right by the order.
 pub fn check(arena: &[u8], table: &[u8], h: u32, i: u32) -> Outcome {
     let m = lengths::<false>(arena, table)?;
-    plain(h)?;
     intact::<false>(table, m)?;
-    let block = block_at(table, h)?;
+    let block = plain_referent(table, h)?;
     Ok(u32::from((h ^ h.wrapping_add(i)) >> block.order == 0))
 }
 

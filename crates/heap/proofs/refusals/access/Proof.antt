@@ -1,4 +1,4 @@
--- The tests that a path has passed say which refusal of the list is the first that applies: the width, the value, then those of `plain`.
+-- The tests that a path has passed say which refusal of the list is the first that applies: the width, the value or none.
 use mathlib.Core.Path.{_≡_, sym, _∙_}
 use mathlib.Core.Bool.{false}
 use borrow.Author.Needs.{needs}
@@ -23,13 +23,10 @@ too-wide-requires c κs = good-width c
 returns-2 : tie.Need-returns-2
 returns-2 c = let wide : tie.After-too-wide = c .before in rw (good-width (wide .before), sym (wide .too-wide .ensures) ∙ c .if2 .taken)
 
-plain-requires : tie.Need-plain-requires
-plain-requires c κs = search needs
-
 returns-3 : tie.Need-returns-3
 returns-3 c =
-    let wide : tie.After-too-wide = c .before .before in
-    rw (good-width (wide .before), sym (wide .too-wide .ensures) ∙ c .before .if2 .left) (c .plain .ensures)
+    let wide : tie.After-too-wide = c .before in
+    rw (good-width (wide .before), sym (wide .too-wide .ensures) ∙ c .if2 .left)
 
 pub access-spec : {M : Type 1} → statement M
-access-spec = tie.close (tie.spec bad-width-requires returns too-wide-requires returns-2 plain-requires returns-3)
+access-spec = tie.close (tie.spec bad-width-requires returns too-wide-requires returns-2 returns-3)

@@ -1,10 +1,10 @@
--- `locate` leads p to a number, which refuses the check (`check-missing`), or to a block, of whose order `passes` answers (`check-found`).
+-- `locate_plain` leads p to a number, which refuses the check (`check-led-refused`), or to a block, of whose order `passes` answers (`check-found`).
 use mathlib.Core.Path.{_≡_, _∙_, sym, ap}
 use mathlib.Core.Logic.{⊎-elim}
 use borrow.Author.Needs.{needs}
 use Rattle.heap.specs.Heaps.{bit}
 use Rattle.heap.proofs.Settling.{answer}
-use Rattle.heap.proofs.Stepping.{check-missing, check-order, check-found}
+use Rattle.heap.proofs.Stepping.{check-led-refused, check-order, check-found}
 use Rattle.heap.proofs.unchecked.check.Statement.{statement}
 use Rattle.heap.proofs.unchecked.check.Tie as tie
 
@@ -15,8 +15,8 @@ at-refusal c = c .before .before .before .before .before
 abbrev at-block : tie.After-e → tie.Start
 at-block c = c .before .before .before .before .before
 
-locate-requires : tie.Need-locate-requires
-locate-requires c κs = search needs
+locate-plain-requires : tie.Need-locate-plain-requires
+locate-plain-requires c κs = search needs
 
 enum-known-number : tie.Need-enum-known-number
 enum-known-number c = search needs
@@ -31,7 +31,7 @@ passes-requires : tie.Need-passes-requires
 passes-requires c κs =
     let k : tie.After-e = c .before in
     let s = at-block k in
-    check-order {a = s .args .arena .now} (s .pre .0) _ (s .args .i) (s .pre .1) (k .before .before .locate .ensures) (k .e .given .1)
+    check-order {a = s .args .arena .now} (s .pre) _ (s .args .i) (k .before .before .locate-plain .ensures) (k .e .given .1)
 
 accepted-requires : tie.Need-accepted-requires
 accepted-requires c κs = search needs
@@ -40,7 +40,7 @@ returns : tie.Need-returns
 returns c =
     let k : tie.After-number = c .before .before in
     let s = at-refusal k in
-    check-missing (s .pre .0) _ _ (s .pre .1) (k .before .before .locate .ensures) (k .number .given .1) (c .refused .ensures)
+    check-led-refused (s .pre) _ _ (k .before .before .locate-plain .ensures) (k .number .given .1) (c .refused .ensures)
 
 returns-2 : tie.Need-returns-2
 returns-2 c =
@@ -50,14 +50,14 @@ returns-2 c =
     let s = at-block k in
     let b : chosen .accepted ≡ bit (passed .passes .result) =
     ⊎-elim (λ w. w .1 ∙ ap bit (sym (w .0 .taken))) (λ w. w .1 ∙ ap bit (sym (w .0 .left))) (chosen .came) in
-    check-found (s .pre .0) _ _ (s .pre .1) (k .before .before .locate .ensures) (k .e .given .1) (passed .passes .ensures .0)
+    check-found (s .pre) _ _ (k .before .before .locate-plain .ensures) (k .e .given .1) (passed .passes .ensures .0)
     (c .accepted .ensures ∙ ap (answer 0) b)
 
 pub check-spec : {M : Type 1} → statement M
 check-spec =
     tie.close
     (tie.spec
-    locate-requires
+    locate-plain-requires
     enum-known-number
     refused-requires
     enum-known-e

@@ -1,6 +1,6 @@
--- Where `locate` finds no block for one of the two pointers, the greater number refuses the call (`both-refused`). Where the first one's block is locked it is
--- refused too (`locked-refused`). Else as many bytes as the lesser part holds lie in the arena at either place (`room`), and what is stored and answered is the
--- call's outcome (`copy-done`).
+-- Where `locate_plain` finds no block for one of the two pointers, the greater number refuses the call (`both-refused`). Where the first one's block is locked
+-- it is refused too (`locked-refused`). Else as many bytes as the lesser part holds lie in the arena at either place (`room`), and what is stored and answered
+-- is the call's outcome (`copy-done`).
 use Prim.Native.Nat.{ℕ, min, max}
 use mathlib.Core.Path.{_≡_, _∙_, sym, ap, ap₂}
 use mathlib.Core.Bool.{false}
@@ -8,14 +8,11 @@ use mathlib.Core.List.{[]}
 use native.Mathlib.Omega.{arith}
 use borrow.Author.Needs.{needs}
 use Rattle.blocks.specs.Blocks.{leftIn}
-use Rattle.blocks.specs.Pointers.{marked}
 use Rattle.blocks.specs.Tables.{lockedIn}
 use Rattle.blocks.specs.declared.Referent.{Referent}
 use Rattle.blocks.specs.declared.Referent.the-variants.{Found}
-use Rattle.common.proofs.Booleans.{or-false-left, or-false-right}
-use Rattle.heap.specs.Rules.{argumentRules}
 use Rattle.heap.specs.Heaps.{heapOf, heapView}
-use Rattle.heap.specs.Inner.{located, numberIn}
+use Rattle.heap.specs.Inner.{locatedPlain, numberIn}
 use Rattle.heap.specs.declared.Call.the-variants.{Copy}
 use Rattle.heap.specs.declared.refusals.Located.{Located}
 use Rattle.heap.specs.declared.refusals.Located.the-variants.{Refused, Inside}
@@ -23,9 +20,9 @@ use Rattle.heap.proofs.Accesses.{Led, led, left-asks, at-base, room, lo
 use Rattle.heap.proofs.unchecked.copy.Statement.{statement}
 use Rattle.heap.proofs.unchecked.copy.Tie as tie
 
--- where `locate` leads a pointer, by the table
+-- where `locate_plain` leads a pointer, by the table
 abbrev place : tie.Start → ℕ → Located
-place e p = located (heapView (e .args .t) (e .args .m) (heapOf [] (e .args .table .now))) p
+place e p = locatedPlain (heapView (e .args .t) (e .args .m) (heapOf [] (e .args .table .now))) p
 
 -- where the first pointer is refused
 module _ (c : tie.After-number) where
@@ -33,7 +30,7 @@ module _ (c : tie.After-number) where
   origin = c .before .before .before .before .before
 
   refusal : place origin (origin .args .p) ≡ Refused (c .number .given .0 .0)
-  refusal = sym (c .before .before .locate .ensures) ∙ c .number .given .1
+  refusal = sym (c .before .before .locate-plain .ensures) ∙ c .number .given .1
 
 -- where it leads to a block
 module _ (c : tie.After-s) where
@@ -44,7 +41,7 @@ module _ (c : tie.After-s) where
   target = Found (c .s .given .0 .0) (c .s .given .0 .1 .0)
 
   found : place entry (entry .args .p) ≡ Inside (c .s .given .0 .0) (c .s .given .0 .1 .0)
-  found = sym (c .before .before .locate .ensures) ∙ c .s .given .1
+  found = sym (c .before .before .locate-plain .ensures) ∙ c .s .given .1
 
 -- and the second is refused
 module _ (c : tie.After-other) where
@@ -52,7 +49,7 @@ module _ (c : tie.After-other) where
   first = c .before .before .before .before
 
   refusal-2 : place (entry first) (entry first .args .q) ≡ Refused (c .other .given .0 .0)
-  refusal-2 = sym (c .before .before .locate3 .ensures) ∙ c .other .given .1
+  refusal-2 = sym (c .before .before .locate-plain3 .ensures) ∙ c .other .given .1
 
 -- or leads to a block as well
 module _ (c : tie.After-z) where
@@ -64,14 +61,11 @@ module _ (c : tie.After-z) where
 
   to-target : let a = entry at-s .args in
       Led (a .t) (a .m) (Copy (a .p) (a .q) (a .n)) (a .arena .now) (a .table .now) (a .p) (at-s .s .given .0 .0) (at-s .s .given .0 .1 .0)
-  unfolding argumentRules
-  to-target = led (entry at-s .pre) _ (at-s .before .before .locate .ensures) (or-false-left _ _) (at-s .s .given .1)
+  to-target = led (entry at-s .pre) _ (at-s .before .before .locate-plain .ensures) (at-s .s .given .1)
 
   to-source : let a = entry at-s .args in
       Led (a .t) (a .m) (Copy (a .p) (a .q) (a .n)) (a .arena .now) (a .table .now) (a .q) (c .z .given .0 .0) (c .z .given .0 .1 .0)
-  unfolding argumentRules
-  to-source =
-      led (entry at-s .pre) _ (c .before .before .locate3 .ensures) (or-false-right (marked (entry at-s .args .p)) _) (c .z .given .1)
+  to-source = led (entry at-s .pre) _ (c .before .before .locate-plain3 .ensures) (c .z .given .1)
 
 -- where the target's lock was found open
 module _ (c : tie.Else1) where
@@ -100,14 +94,14 @@ module _ (c : tie.After-least2) where
       c .least2 .ensures
       ∙ ap (min (start .args .n)) (c .before .least .ensures ∙ ap₂ min (c .before .before .before .left-in .ensures) (c .before .before .left-in2 .ensures))
 
-locate-requires : tie.Need-locate-requires
-locate-requires c κs = search needs
+locate-plain-requires : tie.Need-locate-plain-requires
+locate-plain-requires c κs = search needs
 
 enum-known-number : tie.Need-enum-known-number
 enum-known-number c = search needs
 
-locate-requires-2 : tie.Need-locate-requires-2
-locate-requires-2 c κs = search needs
+locate-plain-requires-2 : tie.Need-locate-plain-requires-2
+locate-plain-requires-2 c κs = search needs
 
 number-of-requires : tie.Need-number-of-requires
 number-of-requires c κs = search needs
@@ -123,15 +117,15 @@ returns-2 c =
     let number : tie.After-number-of = c .before .before in
     let k : tie.After-number = number .before .before .before in
     let s = origin k in
-    let second = number .number-of .ensures ∙ ap numberIn (number .before .locate2 .ensures) in
+    let second = number .number-of .ensures ∙ ap numberIn (number .before .locate-plain2 .ensures) in
     let greater = c .before .greatest .ensures ∙ ap₂ max (sym (ap numberIn (refusal k))) second in
     both-refused (s .pre) greater (s .args .p) _ (refusal k) (omega arith) (c .refused .ensures)
 
 enum-known-s : tie.Need-enum-known-s
 enum-known-s c = search needs
 
-locate-requires-3 : tie.Need-locate-requires-3
-locate-requires-3 c κs = search needs
+locate-plain-requires-3 : tie.Need-locate-plain-requires-3
+locate-plain-requires-3 c κs = search needs
 
 enum-known-other : tie.Need-enum-known-other
 enum-known-other c = search needs
@@ -211,6 +205,7 @@ returns-4 c =
 pub copy-spec : {M : Type 1} → statement M
 copy-spec =
     tie.close
-    (tie.spec locate-requires enum-known-number locate-requires-2 number-of-requires greatest-requires refused-requires enum-known-s locate-requires-3
-    enum-known-other refused-requires-2 enum-known-z is-locked-requires refused-requires-3 returns left-in-requires left-in-requires-2 least-requires
-    least-requires-2 offset-requires offset-requires-2 cast-copy copy-requires accepted-requires returns-2 returns-3 same-length returns-4)
+    (tie.spec locate-plain-requires enum-known-number locate-plain-requires-2 number-of-requires greatest-requires refused-requires enum-known-s
+    locate-plain-requires-3 enum-known-other refused-requires-2 enum-known-z is-locked-requires refused-requires-3 returns left-in-requires
+    left-in-requires-2 least-requires least-requires-2 offset-requires offset-requires-2 cast-copy copy-requires accepted-requires returns-2 returns-3
+    same-length returns-4)

@@ -1,13 +1,13 @@
--- `locate` leads p to a number, which refuses the call (`led-refused`), or to a block. Where it is locked the call is refused (`locked-refused`), and else the
--- bytes that are filled are left in it, so they lie in the arena (`room`), and what is stored and answered is the call's outcome (`fill-done`).
+-- `locate_plain` leads p to a number, which refuses the call (`plain-refused`), or to a block. Where it is locked the call is refused (`locked-refused`), and
+-- else the bytes that are filled are left in it, so they lie in the arena (`room`), and what is stored and answered is the call's outcome (`fill-done`).
 use mathlib.Core.Path.{_≡_, refl, sym, _∙_}
 use mathlib.Core.Bool.{false}
 use native.Mathlib.Omega.{arith}
 use borrow.Author.Needs.{needs}
 use Rattle.blocks.specs.Tables.{lockedIn}
-use Rattle.heap.specs.Rules.{argumentRules, stateRules}
+use Rattle.heap.specs.Rules.{stateRules}
 use Rattle.heap.specs.declared.Call.the-variants.{Fill}
-use Rattle.heap.proofs.Accesses.{Led, led-refused, led, left-asks, at-base, room, locked-refused, fill-last, fill-done}
+use Rattle.heap.proofs.Accesses.{Led, plain-refused, led, left-asks, at-base, room, locked-refused, fill-last, fill-done}
 use Rattle.heap.proofs.unchecked.fill.Statement.{statement}
 use Rattle.heap.proofs.unchecked.fill.Tie as tie
 
@@ -20,8 +20,7 @@ module _ (c : tie.After-s) where
   entry = c .before .before .before .before .before
 
   home : let a = entry .args in Led (a .t) (a .m) (Fill (a .p) (a .v) (a .n)) (a .arena .now) (a .table .now) (a .p) (c .s .given .0 .0) (c .s .given .0 .1 .0)
-  unfolding argumentRules
-  home = led (entry .pre) _ (c .before .before .locate .ensures) (λ h. h) (c .s .given .1)
+  home = led (entry .pre) _ (c .before .before .locate-plain .ensures) (c .s .given .1)
 
 -- once its lock is found open
 module _ (c : tie.Else1) where
@@ -39,8 +38,8 @@ module _ (c : tie.After-least) where
   abbrev at-block : tie.After-s
   at-block = block opened
 
-locate-requires : tie.Need-locate-requires
-locate-requires c κs = search needs
+locate-plain-requires : tie.Need-locate-plain-requires
+locate-plain-requires c κs = search needs
 
 enum-known-number : tie.Need-enum-known-number
 enum-known-number c = search needs
@@ -90,7 +89,7 @@ returns-2 : tie.Need-returns-2
 unfolding stateRules
 returns-2 c =
     let k : tie.After-number = c .before .before in
-    led-refused (at-refusal k .pre) _ (k .before .before .locate .ensures) _ refl (k .number .given .1) (c .refused .ensures)
+    plain-refused (at-refusal k .pre) _ (k .before .before .locate-plain .ensures) _ refl (k .number .given .1) (c .refused .ensures)
 
 same-length : tie.Need-same-length
 same-length c = search needs
@@ -107,7 +106,7 @@ pub fill-spec : {M : Type 1} → statement M
 fill-spec =
     tie.close
     (tie.spec
-    locate-requires
+    locate-plain-requires
     enum-known-number
     refused-requires
     enum-known-s

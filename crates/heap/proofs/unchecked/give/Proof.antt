@@ -1,4 +1,4 @@
--- `locate` leads p to a number, which refuses the call (`led-refused`), or to a block. Where p is not the block's start the call is refused
+-- `locate_plain` leads p to a number, which refuses the call (`plain-refused`), or to a block. Where p is not the block's start the call is refused
 -- (`give-inside`), where the block is locked too (`locked-refused`), and else its entries lie in the table (`block-slots`) and become 0 (`give-done`).
 use mathlib.Core.Path.{_≡_, refl, sym, _∙_, ap}
 use mathlib.Core.Bool.{false}
@@ -7,9 +7,9 @@ use native.Mathlib.Omega.{arith}
 use borrow.Author.Needs.{needs}
 use Rattle.blocks.specs.Blocks.{base}
 use Rattle.blocks.specs.Tables.{lockedIn}
-use Rattle.heap.specs.Rules.{argumentRules, stateRules}
+use Rattle.heap.specs.Rules.{stateRules}
 use Rattle.heap.specs.declared.Call.the-variants.{Give}
-use Rattle.heap.proofs.Accesses.{Led, led-refused, led, at-base, locked-refused}
+use Rattle.heap.proofs.Accesses.{Led, plain-refused, led, at-base, locked-refused}
 use Rattle.heap.proofs.Placing.{block-slots, give-inside, give-last, give-done}
 use Rattle.heap.proofs.unchecked.give.Statement.{statement}
 use Rattle.heap.proofs.unchecked.give.Tie as tie
@@ -23,8 +23,7 @@ module _ (c : tie.After-s) where
   entry = c .before .before .before .before .before .before
 
   home : let a = entry .args in Led (a .t) (a .m) (Give (a .p)) (a .arena .now) (a .table .now) (a .p) (c .s .given .0 .0) (c .s .given .0 .1 .0)
-  unfolding argumentRules
-  home = led (entry .pre) _ (c .before .before .locate .ensures) (λ h. h) (c .s .given .1)
+  home = led (entry .pre) _ (c .before .before .locate-plain .ensures) (c .s .given .1)
 
 -- once p is known to be the block's start, and the lock is asked for
 module _ (c : tie.After-is-locked) where
@@ -44,8 +43,8 @@ block c = at-block (c .before)
 unlocked : (c : tie.Else2) → let a = entry (block c) .args in lockedIn (a .t) (a .table .now) (a .p) ≡ false
 unlocked c = sym (lock-of (c .before)) ∙ c .if2 .left
 
-locate-requires : tie.Need-locate-requires
-locate-requires c κs = search needs
+locate-plain-requires : tie.Need-locate-plain-requires
+locate-plain-requires c κs = search needs
 
 enum-known-number : tie.Need-enum-known-number
 enum-known-number c = search needs
@@ -118,7 +117,7 @@ returns-3 : tie.Need-returns-3
 unfolding stateRules
 returns-3 c =
     let k : tie.After-number = c .before .before in
-    led-refused (at-refusal k .pre) _ (k .before .before .locate .ensures) _ refl (k .number .given .1) (c .refused .ensures)
+    plain-refused (at-refusal k .pre) _ (k .before .before .locate-plain .ensures) _ refl (k .number .given .1) (c .refused .ensures)
 
 same-length-4 : tie.Need-same-length-4
 same-length-4 c = search needs
@@ -136,7 +135,7 @@ pub give-spec : {M : Type 1} → statement M
 give-spec =
     tie.close
     (tie.spec
-    locate-requires
+    locate-plain-requires
     enum-known-number
     refused-requires
     enum-known-s

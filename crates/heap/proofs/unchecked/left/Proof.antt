@@ -1,9 +1,9 @@
--- `locate` leads p to a number, which refuses the call (`led-refused`), or to a block, of which `left_in` counts what is left (`left-done`).
+-- `locate_plain` leads p to a number, which refuses the call (`plain-refused`), or to a block, of which `left_in` counts what is left (`left-done`).
 use mathlib.Core.Path.{refl}
 use borrow.Author.Needs.{needs}
-use Rattle.heap.specs.Rules.{argumentRules, stateRules}
+use Rattle.heap.specs.Rules.{stateRules}
 use Rattle.heap.specs.declared.Call.the-variants.{Left}
-use Rattle.heap.proofs.Accesses.{Led, led-refused, led, left-asks, left-done}
+use Rattle.heap.proofs.Accesses.{Led, plain-refused, led, left-asks, left-done}
 use Rattle.heap.proofs.unchecked.left.Statement.{statement}
 use Rattle.heap.proofs.unchecked.left.Tie as tie
 
@@ -16,11 +16,10 @@ module _ (c : tie.After-s) where
   entry = c .before .before .before .before .before
 
   home : let a = entry .args in Led (a .t) (a .m) (Left (a .p)) (a .arena .now) (a .table .now) (a .p) (c .s .given .0 .0) (c .s .given .0 .1 .0)
-  unfolding argumentRules
-  home = led (entry .pre) _ (c .before .before .locate .ensures) (λ h. h) (c .s .given .1)
+  home = led (entry .pre) _ (c .before .before .locate-plain .ensures) (c .s .given .1)
 
-locate-requires : tie.Need-locate-requires
-locate-requires c κs = search needs
+locate-plain-requires : tie.Need-locate-plain-requires
+locate-plain-requires c κs = search needs
 
 enum-known-number : tie.Need-enum-known-number
 enum-known-number c = search needs
@@ -41,7 +40,7 @@ returns : tie.Need-returns
 unfolding stateRules
 returns c =
     let k : tie.After-number = c .before .before in
-    led-refused (at-refusal k .pre) _ (k .before .before .locate .ensures) _ refl (k .number .given .1) (c .refused .ensures)
+    plain-refused (at-refusal k .pre) _ (k .before .before .locate-plain .ensures) _ refl (k .number .given .1) (c .refused .ensures)
 
 returns-2 : tie.Need-returns-2
 returns-2 c =
@@ -52,7 +51,7 @@ pub left-spec : {M : Type 1} → statement M
 left-spec =
     tie.close
     (tie.spec
-    locate-requires
+    locate-plain-requires
     enum-known-number
     refused-requires
     enum-known-s

@@ -1,11 +1,11 @@
--- `locate` leads p to a number, which refuses the call (`led-refused`), or to a block. Where fewer bytes are left in it than the width the call is refused
--- (`short-refused`), and else they lie in the arena (`room`), and their number is the answer (`read-done`).
+-- `locate_plain` leads p to a number, which refuses the call (`plain-refused`), or to a block. Where fewer bytes are left in it than the width the call is
+-- refused (`short-refused`), and else they lie in the arena (`room`), and their number is the answer (`read-done`).
 use mathlib.Core.Path.{refl}
 use native.Mathlib.Omega.{arith}
 use borrow.Author.Needs.{needs}
 use Rattle.heap.specs.Rules.{argumentRules, stateRules}
 use Rattle.heap.specs.declared.Call.the-variants.{Read}
-use Rattle.heap.proofs.Accesses.{Led, led-refused, led, left-asks, at-base, room, narrow, short-refused, read-done}
+use Rattle.heap.proofs.Accesses.{Led, plain-refused, led, left-asks, at-base, room, narrow, short-refused, read-done}
 use Rattle.heap.proofs.unchecked.read.Statement.{statement}
 use Rattle.heap.proofs.unchecked.read.Tie as tie
 
@@ -18,11 +18,10 @@ module _ (c : tie.After-s) where
   entry = c .before .before .before .before .before
 
   home : let a = entry .args in Led (a .t) (a .m) (Read (a .p) (a .w)) (a .arena .now) (a .table .now) (a .p) (c .s .given .0 .0) (c .s .given .0 .1 .0)
-  unfolding argumentRules
-  home = led (entry .pre) _ (c .before .before .locate .ensures) (λ h. h) (c .s .given .1)
+  home = led (entry .pre) _ (c .before .before .locate-plain .ensures) (c .s .given .1)
 
-locate-requires : tie.Need-locate-requires
-locate-requires c κs = search needs
+locate-plain-requires : tie.Need-locate-plain-requires
+locate-plain-requires c κs = search needs
 
 enum-known-number : tie.Need-enum-known-number
 enum-known-number c = search needs
@@ -64,7 +63,7 @@ returns-2 : tie.Need-returns-2
 unfolding stateRules
 returns-2 c =
     let k : tie.After-number = c .before .before in
-    led-refused (at-refusal k .pre) _ (k .before .before .locate .ensures) _ refl (k .number .given .1) (c .refused .ensures)
+    plain-refused (at-refusal k .pre) _ (k .before .before .locate-plain .ensures) _ refl (k .number .given .1) (c .refused .ensures)
 
 returns-3 : tie.Need-returns-3
 returns-3 c =
@@ -77,7 +76,7 @@ pub read-spec : {M : Type 1} → statement M
 read-spec =
     tie.close
     (tie.spec
-    locate-requires
+    locate-plain-requires
     enum-known-number
     refused-requires
     enum-known-s

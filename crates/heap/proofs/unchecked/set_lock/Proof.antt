@@ -1,11 +1,11 @@
--- `locate` leads p to a number, which refuses the call (`led-refused`), or to a block, whose entries lie in the table (`block-slots`) and are stamped anew
--- (`lock-done`).
+-- `locate_plain` leads p to a number, which refuses the call (`plain-refused`), or to a block, whose entries lie in the table (`block-slots`) and are stamped
+-- anew (`lock-done`).
 use mathlib.Core.Path.{refl}
 use native.Mathlib.Omega.{arith}
 use borrow.Author.Needs.{needs}
-use Rattle.heap.specs.Rules.{argumentRules, stateRules}
+use Rattle.heap.specs.Rules.{stateRules}
 use Rattle.heap.specs.declared.Call.the-variants.{SetLock}
-use Rattle.heap.proofs.Accesses.{Led, led-refused, led}
+use Rattle.heap.proofs.Accesses.{Led, plain-refused, led}
 use Rattle.heap.proofs.Placing.{block-slots, lock-done}
 use Rattle.heap.proofs.unchecked.set_lock.Statement.{statement}
 use Rattle.heap.proofs.unchecked.set_lock.Tie as tie
@@ -19,11 +19,10 @@ module _ (c : tie.After-s) where
   entry = c .before .before .before .before .before .before
 
   home : let a = entry .args in Led (a .t) (a .m) (SetLock (a .p) (a .locked)) (a .arena .now) (a .table .now) (a .p) (c .s .given .0 .0) (c .s .given .0 .1 .0)
-  unfolding argumentRules
-  home = led (entry .pre) _ (c .before .before .locate .ensures) (λ h. h) (c .s .given .1)
+  home = led (entry .pre) _ (c .before .before .locate-plain .ensures) (c .s .given .1)
 
-locate-requires : tie.Need-locate-requires
-locate-requires c κs = search needs
+locate-plain-requires : tie.Need-locate-plain-requires
+locate-plain-requires c κs = search needs
 
 enum-known-number : tie.Need-enum-known-number
 enum-known-number c = search needs
@@ -68,7 +67,7 @@ returns : tie.Need-returns
 unfolding stateRules
 returns c =
     let k : tie.After-number = c .before .before in
-    led-refused (at-refusal k .pre) _ (k .before .before .locate .ensures) _ refl (k .number .given .1) (c .refused .ensures)
+    plain-refused (at-refusal k .pre) _ (k .before .before .locate-plain .ensures) _ refl (k .number .given .1) (c .refused .ensures)
 
 same-length-2 : tie.Need-same-length-2
 same-length-2 c = search needs
@@ -86,7 +85,7 @@ pub set-lock-spec : {M : Type 1} → statement M
 set-lock-spec =
     tie.close
     (tie.spec
-    locate-requires
+    locate-plain-requires
     enum-known-number
     refused-requires
     enum-known-s

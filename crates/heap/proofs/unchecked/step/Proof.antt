@@ -1,15 +1,14 @@
--- `locate` leads p to a number, which refuses the call (`led-refused`), or to a block, which holds the address at which p's referent is sought
+-- `locate` leads p to a number, which refuses the call (`step-missing`), or to a block, which holds the address at which p's referent is sought
 -- (`found-holding`): then the answer is that of `stepped` (`step-done`).
-use mathlib.Core.Path.{_≡_, _∙_, refl, sym}
+use mathlib.Core.Path.{_≡_, _∙_, sym}
 use mathlib.Core.List.{[]}
 use native.Mathlib.Omega.{arith}
 use borrow.Author.Needs.{needs}
-use Rattle.heap.specs.Rules.{stateRules}
 use Rattle.heap.specs.Heaps.{heapOf, heapView}
 use Rattle.heap.specs.Inner.{located}
 use Rattle.heap.specs.declared.refusals.Located.the-variants.{Inside}
-use Rattle.heap.proofs.Accesses.{led-refused, found-holding}
-use Rattle.heap.proofs.Stepping.{step-done}
+use Rattle.heap.proofs.Accesses.{found-holding}
+use Rattle.heap.proofs.Stepping.{step-missing, step-done}
 use Rattle.heap.proofs.unchecked.step.Statement.{statement}
 use Rattle.heap.proofs.unchecked.step.Tie as tie
 
@@ -49,10 +48,9 @@ stepped-requires c κs =
     rw (c .before .sought-address .ensures, c .address-of .ensures) x
 
 returns : tie.Need-returns
-unfolding stateRules
 returns c =
     let k : tie.After-number = c .before .before in
-    led-refused (at-refusal k .pre) _ (k .before .before .locate .ensures) _ refl (k .number .given .1) (c .refused .ensures)
+    step-missing (at-refusal k .pre) (k .before .before .locate .ensures) (k .number .given .1) (c .refused .ensures)
 
 returns-2 : tie.Need-returns-2
 returns-2 c =

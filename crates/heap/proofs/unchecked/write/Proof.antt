@@ -1,5 +1,5 @@
--- `locate` leads p to a number, which refuses the call (`led-refused`), or to a block. Where fewer bytes are left in it than the width the call is refused
--- (`short-refused`), where it is locked too (`locked-refused`), and else they lie in the arena (`room`), and v is stored there (`write-done`).
+-- `locate_plain` leads p to a number, which refuses the call (`plain-refused`), or to a block. Where fewer bytes are left in it than the width the call is
+-- refused (`short-refused`), where it is locked too (`locked-refused`), and else they lie in the arena (`room`), and v is stored there (`write-done`).
 use mathlib.Core.Path.{_≡_, refl, sym, _∙_}
 use mathlib.Core.Bool.{false}
 use native.Mathlib.Omega.{arith}
@@ -7,7 +7,7 @@ use borrow.Author.Needs.{needs}
 use Rattle.blocks.specs.Tables.{lockedIn}
 use Rattle.heap.specs.Rules.{argumentRules, stateRules}
 use Rattle.heap.specs.declared.Call.the-variants.{Write}
-use Rattle.heap.proofs.Accesses.{Led, led-refused, led, left-asks, at-base, room, narrow, short-refused, long-first, locked-refused, write-done}
+use Rattle.heap.proofs.Accesses.{Led, plain-refused, led, left-asks, at-base, room, narrow, short-refused, long-first, locked-refused, write-done}
 use Rattle.heap.proofs.unchecked.write.Statement.{statement}
 use Rattle.heap.proofs.unchecked.write.Tie as tie
 
@@ -20,8 +20,7 @@ module _ (c : tie.After-s) where
   entry = c .before .before .before .before .before
 
   home : let a = entry .args in Led (a .t) (a .m) (Write (a .p) (a .w) (a .v)) (a .arena .now) (a .table .now) (a .p) (c .s .given .0 .0) (c .s .given .0 .1 .0)
-  unfolding argumentRules
-  home = led (entry .pre) _ (c .before .before .locate .ensures) (λ h. h) (c .s .given .1)
+  home = led (entry .pre) _ (c .before .before .locate-plain .ensures) (c .s .given .1)
 
 -- once it is known to hold the bytes, and the lock is asked for
 module _ (c : tie.After-is-locked) where
@@ -35,8 +34,8 @@ block c = at-block (c .before)
 unlocked : (c : tie.Else2) → let a = entry (block c) .args in lockedIn (a .t) (a .table .now) (a .p) ≡ false
 unlocked c = sym (c .before .is-locked .ensures) ∙ c .if2 .left
 
-locate-requires : tie.Need-locate-requires
-locate-requires c κs = search needs
+locate-plain-requires : tie.Need-locate-plain-requires
+locate-plain-requires c κs = search needs
 
 enum-known-number : tie.Need-enum-known-number
 enum-known-number c = search needs
@@ -96,7 +95,7 @@ returns-3 : tie.Need-returns-3
 unfolding stateRules
 returns-3 c =
     let k : tie.After-number = c .before .before in
-    led-refused (at-refusal k .pre) _ (k .before .before .locate .ensures) _ refl (k .number .given .1) (c .refused .ensures)
+    plain-refused (at-refusal k .pre) _ (k .before .before .locate-plain .ensures) _ refl (k .number .given .1) (c .refused .ensures)
 
 same-length : tie.Need-same-length
 same-length c = search needs
@@ -112,7 +111,7 @@ pub write-spec : {M : Type 1} → statement M
 write-spec =
     tie.close
     (tie.spec
-    locate-requires
+    locate-plain-requires
     enum-known-number
     refused-requires
     enum-known-s
