@@ -1,5 +1,6 @@
 //! What a compiler and a prover let pass, and a reader should not meet: imports and lemmas that nobody uses, long lines,
-//! must-fail edits and claims that lead nowhere, files stored twice. `tests/tidy.rs` fails on any of it.
+//! must-fail edits and claims that lead nowhere, names in pages that have gone from the code, files stored twice.
+//! `tests/tidy.rs` fails on any of it.
 
 mod claims;
 mod copies;
@@ -7,6 +8,7 @@ mod edits;
 mod imports;
 mod lemmas;
 mod lengths;
+mod mentions;
 mod outline;
 mod source;
 mod strays;
@@ -91,6 +93,7 @@ impl Repository {
             edits::unclaimed,
             edits::misplaced,
             claims::unknown_names,
+            mentions::gone,
             copies::stored_twice,
             strays::in_no_crate,
         ];
