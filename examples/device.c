@@ -43,21 +43,22 @@ static void direct_calls(void)
     print_answer("give again", tulivombe_give(arena, sizeof arena, table, sizeof table, block.value));
 }
 
-/* Document 01's take. */
+/* Document 01's take. It repeats nothing, so a budget of as many records carries out all of it. */
 static const tulivombe_record records[] = {
-    {1, 0, 0, 0, 0, 20},           /* get d0 20 */
-    {1, 1, 0, 0, 0, 16},           /* get d1 16 */
-    {3, 2, 0, 0, 0, 32},           /* step d2 a0 32 */
-    {4, 3, 2, 0, 1, 0},            /* read d3 a2 1 */
-    {3, 2, 2, 0, 0, (uint32_t)-1}, /* step d2 a2 -1 */
-    {1, 4, 0, 0, 0, 32},           /* get d4 32 */
-    {2, 0, 0, 0, 0, 0},            /* give a0 */
+    {1, 0, 0, 0, 0, 0, 20},           /* get d0 20 */
+    {1, 1, 0, 0, 0, 0, 16},           /* get d1 16 */
+    {3, 2, 0, 0, 0, 0, 32},           /* step d2 a0 32 */
+    {4, 3, 2, 0, 1, 0, 0},            /* read d3 a2 1 */
+    {3, 2, 2, 0, 0, 0, (uint32_t)-1}, /* step d2 a2 -1 */
+    {1, 4, 0, 0, 0, 0, 32},           /* get d4 32 */
+    {2, 0, 0, 0, 0, 0, 0},            /* give a0 */
 };
+#define RECORDS (sizeof records / sizeof records[0])
 
 static size_t write_take(uint8_t *file, size_t room)
 {
     size_t at = tulivombe_write_head(file, room, 6).value;
-    for (size_t k = 0; k < sizeof records / sizeof records[0]; k++) {
+    for (size_t k = 0; k < RECORDS; k++) {
         at += tulivombe_write_record(file + at, room - at, records[k]).value;
     }
     return at;
@@ -65,9 +66,9 @@ static size_t write_take(uint8_t *file, size_t room)
 
 static void run_take(const uint8_t *file, size_t length)
 {
-    uint8_t answers[TULIVOMBE_ANSWER_LENGTH * (sizeof records / sizeof records[0])];
+    uint8_t answers[TULIVOMBE_ANSWER_LENGTH * RECORDS];
     tulivombe_ran ran =
-        tulivombe_run(file, length, arena, sizeof arena, table, sizeof table, answers, sizeof answers);
+        tulivombe_run(file, length, arena, sizeof arena, table, sizeof table, answers, sizeof answers, RECORDS);
     size_t at = 2;
 
     printf("take of %u bytes: number %u, %u records, register 2 holds %u\n", (unsigned)length,
@@ -80,10 +81,14 @@ static void run_take(const uint8_t *file, size_t length)
                (unsigned)place.next, (unsigned)b[0], (unsigned)value);
         at = place.next;
     }
-    ran = tulivombe_run_panel(file, length, arena, sizeof arena, table, sizeof table, answers, sizeof answers);
+    ran = tulivombe_run_panel(file, length, arena, sizeof arena, table, sizeof table, answers, sizeof answers,
+                              RECORDS);
     printf("from the panel: number %u, %u records, register 2 holds %u\n", (unsigned)ran.number,
            (unsigned)ran.count, (unsigned)ran.registers[2]);
-    ran = tulivombe_run(file, length - 1, arena, sizeof arena, table, sizeof table, answers, sizeof answers);
+    ran = tulivombe_run(file, length, arena, sizeof arena, table, sizeof table, answers, sizeof answers, 3);
+    printf("with a budget of 3: number %u, %u records, %s\n", (unsigned)ran.number, (unsigned)ran.count,
+           ran.stopped ? "stopped" : "ended");
+    ran = tulivombe_run(file, length - 1, arena, sizeof arena, table, sizeof table, answers, sizeof answers, RECORDS);
     printf("cut short: number %u, %u records\n", (unsigned)ran.number, (unsigned)ran.count);
 }
 

@@ -27,12 +27,17 @@
  * Locks. On a locked block write, fill, copy into it and give are refused 28, judged last. Anyone may unlock it: a
  * lock keeps a block from being edited or given back by accident, and no more (docs/MANUAL.md, "Locked blocks").
  *
+ * Repeats. A take may go back to an earlier record (operation 11), so a run is given a budget: how many records
+ * it may carry out, each counted as often as it is carried out. It says whether it stopped for it
+ * (docs/MANUAL.md, "A take").
+ *
  * Guests. The bytes of one block can be kept from a guest who makes calls on the same heap: docs/MANUAL.md,
  * "A hidden block", says which calls to hold back.
  */
 #ifndef TULIVOMBE_H
 #define TULIVOMBE_H
 
+#include <stdbool.h>
 #include <stddef.h>
 #include <stdint.h>
 
@@ -44,19 +49,20 @@ extern "C" {
 #define TULIVOMBE_MARK UINT32_C(2147483648)
 #define TULIVOMBE_REGISTERS 16
 #define TULIVOMBE_SCREENFUL 64
+#define TULIVOMBE_MOST_STEPS 4096   /* records that a run carries out at most */
 #define TULIVOMBE_LONGEST_FILE 8192 /* bytes of a take */
 #define TULIVOMBE_ANSWER_LENGTH 5   /* bytes of an answer: number, then value big-endian */
 #define TULIVOMBE_CALL_LENGTH 14    /* bytes of a call in a replay */
 
-/* What `number` can say. 1 to 13 and 26 speak of the input, 20 to 25, 27 and 28 of the heap's state; a call's 13 is
- * judged among the latter. */
+/* What `number` can say. 1 to 13, 26 and 29 speak of the input, 20 to 25, 27 and 28 of the heap's state; a call's 13
+ * is judged among the latter. */
 enum tulivombe_number {
     TULIVOMBE_OK = 0,
     TULIVOMBE_VERSION = 1,           /* file empty, or its first byte is not 01 */
     TULIVOMBE_SIZE = 2,              /* size byte missing, or not 5 to 16 */
     TULIVOMBE_FILE_TOO_LONG = 3,     /* file longer than TULIVOMBE_LONGEST_FILE bytes */
     TULIVOMBE_RECORD_LENGTH = 4,     /* record length 0, or more than the bytes left */
-    TULIVOMBE_OPERATION = 5,         /* operation not 1 to 10 */
+    TULIVOMBE_OPERATION = 5,         /* operation not 1 to 12; in a replay, not 1 to 10 */
     TULIVOMBE_OPERATION_LENGTH = 6,  /* length wrong for the operation */
     TULIVOMBE_REGISTER = 7,          /* register above 15 */
     TULIVOMBE_LENGTHS = 8,           /* arena or table of a wrong length */
@@ -73,7 +79,8 @@ enum tulivombe_number {
     TULIVOMBE_PAST_THE_END = 25,     /* read, write: the last byte lies outside the block */
     TULIVOMBE_TOO_MANY_RECORDS = 26, /* front panel: more than TULIVOMBE_SCREENFUL records */
     TULIVOMBE_OUTSIDE = 27,          /* a pointer is sought outside the arena: it never was one into this heap */
-    TULIVOMBE_LOCKED = 28            /* write, fill, copy into, give: the block is locked */
+    TULIVOMBE_LOCKED = 28,           /* write, fill, copy into, give: the block is locked */
+    TULIVOMBE_NOT_BACK = 29          /* again: its k is not below the record's own index */
 };
 
 /* A call's answer. */
@@ -94,22 +101,25 @@ typedef struct {
     uint32_t values[TULIVOMBE_REGISTERS];
 } tulivombe_registers;
 
-/* A run's result. Refused, registers and count are 0. */
+/* A run's result. Refused, registers and count are 0, and it has not stopped. */
 typedef struct {
     uint32_t number;
     uint32_t registers[TULIVOMBE_REGISTERS];
     uint32_t count; /* records carried out */
+    bool stopped;   /* a record was still due when the budget was spent */
 } tulivombe_ran;
 
 /* One record of a take. The comment names the operations that have the field; the reader sets the others to
  * 0, and the writer ignores them. */
 typedef struct {
-    uint8_t operation; /* 1 get, 2 give, 3 step, 4 read, 5 write, 6 left, 7 copy, 8 fill, 9 lock, 10 unlock */
-    uint8_t d;         /* register for the value: get, step, read, left, copy, fill */
-    uint8_t a;         /* register of p: all but get */
+    uint8_t operation; /* 1 get, 2 give, 3 step, 4 read, 5 write, 6 left, 7 copy, 8 fill, 9 lock, 10 unlock,
+                          11 again, 12 set */
+    uint8_t d;         /* register for the value: get, step, read, left, copy, fill, set; counted down: again */
+    uint8_t a;         /* register of p: all but get, again and set */
     uint8_t b;         /* register of q: copy */
     uint8_t byte;      /* w: read, write; v: fill */
-    uint32_t word;     /* n: get, copy, fill; i in two's complement: step; v: write */
+    uint16_t index;    /* k: again */
+    uint32_t word;     /* n: get, copy, fill, set; i in two's complement: step; v: write */
 } tulivombe_record;
 
 /* What the reader gives. Refused, next is 0 and all fields of the record are 0. */
@@ -182,17 +192,22 @@ tulivombe_part tulivombe_show(const uint8_t *arena, size_t arena_len, const uint
                               uint32_t p);
 
 /* Runs a take, an upload from a computer, on a heap that it first makes fresh. The arena must have 2^m
- * bytes, m the file's size byte, and the answer slice hold TULIVOMBE_ANSWER_LENGTH bytes a record: number, then
- * value big-endian; its bytes past them stay. The file is judged whole before any call, its records in their
- * order, each for 4 to 7; a refused record ends nothing. Refused: 1 to 9, and then nothing is changed. */
+ * bytes, m the file's size byte. At most `budget` records are carried out; a budget above TULIVOMBE_MOST_STEPS
+ * counts as TULIVOMBE_MOST_STEPS. The answer slice must hold TULIVOMBE_ANSWER_LENGTH bytes for each record of the
+ * budget, whatever the file has, and gets them for each record carried out: number, then value big-endian; its
+ * bytes past them stay. A file without operation 11 needs a budget of as many records as it has. The file is judged
+ * whole before any call, its records in their order, each for 4 to 7 and then 29; a refused record ends nothing.
+ * Refused: 1 to 7 and 29, 8, 9, and then nothing is changed. */
 tulivombe_ran tulivombe_run(const uint8_t *file, size_t file_len, uint8_t *arena, size_t arena_len,
-                            uint8_t *table, size_t table_len, uint8_t *answers, size_t answers_len);
+                            uint8_t *table, size_t table_len, uint8_t *answers, size_t answers_len,
+                            uint32_t budget);
 
 /* Runs a take from the front panel, whose screen can list TULIVOMBE_SCREENFUL records: a good file of more is
  * refused 26, whatever is lent. In every other case the outcome is that of tulivombe_run, refusals included.
- * Refused: 1 to 7, 26, 8, 9, and then nothing is changed. */
+ * Refused: 1 to 7 and 29, 26, 8, 9, and then nothing is changed. */
 tulivombe_ran tulivombe_run_panel(const uint8_t *file, size_t file_len, uint8_t *arena, size_t arena_len,
-                                  uint8_t *table, size_t table_len, uint8_t *answers, size_t answers_len);
+                                  uint8_t *table, size_t table_len, uint8_t *answers, size_t answers_len,
+                                  uint32_t budget);
 
 /* Puts v in register d of lent registers, and changes no other. Refused: 7, and then nothing is changed. Returns
  * the number. */
@@ -210,7 +225,8 @@ uint32_t tulivombe_replay(uint8_t *arena, size_t arena_len, uint8_t *table, size
                           const uint8_t *calls, size_t calls_len, uint8_t *out, size_t out_len);
 
 /* Reads the record at a place of a file. The first record is at 2; any place may be asked for, and one at the
- * file's end or past it is refused 4. The head and the rest of the file are not judged. Refused: 4 to 7. */
+ * file's end or past it is refused 4. The head and the rest of the file are not judged, nor whether an again goes
+ * back (29), which a run does. Refused: 4 to 7. */
 tulivombe_place tulivombe_read_record(const uint8_t *file, size_t file_len, size_t at);
 
 /* Stores the two head bytes of a file for an arena of 2^m bytes. Refused: 2, 9. Value: 2. */

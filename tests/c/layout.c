@@ -18,11 +18,13 @@ int main(void)
     SIZE(tulivombe_ran);
     OFFSET(tulivombe_ran, registers);
     OFFSET(tulivombe_ran, count);
+    OFFSET(tulivombe_ran, stopped);
     SIZE(tulivombe_record);
     OFFSET(tulivombe_record, d);
     OFFSET(tulivombe_record, a);
     OFFSET(tulivombe_record, b);
     OFFSET(tulivombe_record, byte);
+    OFFSET(tulivombe_record, index);
     OFFSET(tulivombe_record, word);
     SIZE(tulivombe_place);
     OFFSET(tulivombe_place, record);

@@ -9,6 +9,7 @@
 int main(void)
 {
     NUMBER(SCREENFUL);
+    NUMBER(MOST_STEPS);
     NUMBER(LONGEST_FILE);
     NUMBER(ANSWER_LENGTH);
     NUMBER(CALL_LENGTH);
@@ -16,5 +17,6 @@ int main(void)
     NUMBER(TOO_MANY_RECORDS);
     NUMBER(OUTSIDE);
     NUMBER(LOCKED);
+    NUMBER(NOT_BACK);
     return 0;
 }

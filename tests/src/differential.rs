@@ -2,11 +2,13 @@
 
 use crate::call::Call;
 use crate::lent::Lent;
+use crate::literal::{self, Between};
+use crate::plain::runner::MOST_STEPS;
 use crate::plain::takes;
 use crate::plain_c::PlainC;
 use crate::random::{self, Rng};
 use crate::record::Record;
-use crate::subject::{Answer, Caller, Plain, Subject};
+use crate::subject::{Answer, Caller, Plain, Ran, Subject};
 use std::collections::{BTreeMap, BTreeSet};
 
 /// The numbers that each call, by its name, was answered with.
@@ -189,37 +191,92 @@ fn agreed(call: Call, answers: [Answer; 2], known: &mut Vec<u32>, what: &str) ->
     (call.name(), answers[0].number)
 }
 
-/// Random and broken files, run by the caller on buffers that fit or not. Gives the runs' numbers and the records'.
-pub fn runs<A: Subject, B: Subject>(rng: &mut Rng, caller: Caller, files: u32, largest: u32) -> (Tally, Tally) {
-    let mut tally = Tally::default();
-    let mut records = Tally::default();
+/// What random runs met.
+#[derive(Default)]
+pub struct Runs {
+    pub numbers: Tally,
+    /// Of the records that were carried out.
+    pub records: Tally,
+    pub ways: BTreeSet<&'static str>,
+}
+
+/// All ways that random runs must meet: how they come to an end, and what their repeats do.
+pub const WAYS: [&str; 8] = [
+    "ended with the budget spent",
+    "ended with some left",
+    "stopped",
+    "stopped at once",
+    "stopped at 4,096 with more allowed",
+    "answers that miss by one",
+    "went back",
+    "again at 0",
+];
+
+/// Random and broken files, run by the caller on buffers that fit or not, with any budget.
+pub fn runs<A: Subject, B: Subject>(rng: &mut Rng, caller: Caller, files: u32, largest: u32) -> Runs {
+    let mut met = Runs::default();
     for index in 0..files {
         let m = rng.arena_order(largest);
         let most = rng.pick(&[0, 4, 30, 120]);
         let file = random::file(rng, m, most);
         let (arena, table) = buffers(rng, m);
         let mut heaps = Case::new(rng, &arena, &table);
-        let needed = 5 * takes::judge(&file).map_or(most as usize, |(_, count)| count);
-        let out = answer_slice(rng, needed);
+        let budget = random::budget(rng, steps(&file));
+        let out = answer_slice(rng, 5 * budget.min(4_096) as usize);
         let mut answers = [out.clone(), out];
         let lent = Lent::new(rng, &file);
         let before = lent.clone();
         let Case { arenas: [a0, a1], tables: [t0, t1] } = &mut heaps;
         let [o0, o1] = &mut answers;
-        let first = caller.run::<A>(lent.bytes(), a0.bytes_mut(), t0.bytes_mut(), o0.bytes_mut());
-        let second = caller.run::<B>(lent.bytes(), a1.bytes_mut(), t1.bytes_mut(), o1.bytes_mut());
-        let what = format!("{} and {}, run {index}, {caller:?}, file {file:02x?}", A::NAME, B::NAME);
+        let first = caller.run::<A>(lent.bytes(), a0.bytes_mut(), t0.bytes_mut(), o0.bytes_mut(), budget);
+        let second = caller.run::<B>(lent.bytes(), a1.bytes_mut(), t1.bytes_mut(), o1.bytes_mut(), budget);
+        let what = format!("{} and {}, run {index}, {caller:?}, budget {budget}, file {file:02x?}", A::NAME, B::NAME);
         assert_eq!(first, second, "{what}");
         heaps.compare(&what);
         same_buffer("answer slice", &answers, &what);
         assert_eq!(lent.difference(&before), None, "{what}: the file changed");
-        tally.count("run", first.number);
-        let carried_out = answers[0].bytes().chunks_exact(5).take(first.count as usize);
-        for (name, answer) in operations(&file).into_iter().zip(carried_out) {
-            records.count(name, u32::from(answer[0]));
+        met.run(&file, budget, first, answers[0].bytes());
+    }
+    met
+}
+
+/// How many records of a file plain Rust carries out at most, 0 where it is refused.
+fn steps(file: &[u8]) -> u32 {
+    let Ok((m, _)) = takes::judge(file) else { return 0 };
+    let (mut arena, mut table) = (vec![0; 1 << m], vec![0; 1 << (m - 4)]);
+    Plain::run(file, &mut arena, &mut table, &mut [0; 5 * MOST_STEPS], u32::MAX).count
+}
+
+impl Runs {
+    fn run(&mut self, file: &[u8], budget: u32, ran: Ran, answers: &[u8]) {
+        self.numbers.count("run", ran.number);
+        let way = match (ran.number, ran.stopped, ran.count) {
+            (0, false, count) if count > 0 && count == budget => Some("ended with the budget spent"),
+            (0, false, count) if count < budget => Some("ended with some left"),
+            (0, true, 0) => Some("stopped at once"),
+            (0, true, 4_096) if budget > 4_096 => Some("stopped at 4,096 with more allowed"),
+            (0, true, _) => Some("stopped"),
+            (9, _, _) if answers.len() + 1 == 5 * budget as usize => Some("answers that miss by one"),
+            _ => None,
+        };
+        self.ways.extend(way);
+        self.records(file, answers.chunks_exact(5).take(ran.count as usize));
+    }
+
+    /// Goes through the records that were carried out, each with its answer's bytes.
+    fn records<'a>(&mut self, file: &[u8], answers: impl Iterator<Item = &'a [u8]>) {
+        let (records, mut between) = (literal::records(file), Between::first());
+        for answer in answers {
+            let (index, record) = (between.due, records[between.due]);
+            let value = answer[1..].iter().fold(0, |value, &byte| value << 8 | u32::from(byte));
+            let answer = Answer { number: u32::from(answer[0]), value };
+            assert_eq!(between.carry_out(record, |_| answer), answer, "record {index}, {record:?} of {file:02x?}");
+            self.records.count(record.name(), answer.number);
+            if let Record::Again { .. } = record {
+                self.ways.insert(if between.due <= index { "went back" } else { "again at 0" });
+            }
         }
     }
-    (tally, records)
 }
 
 /// A slice for answers: as long as needed, or a little shorter or longer.
@@ -231,17 +288,6 @@ fn answer_slice(rng: &mut Rng, needed: usize) -> Lent {
     };
     let content = rng.bytes(room);
     Lent::new(rng, &content)
-}
-
-/// The names of the records' operations.
-fn operations(file: &[u8]) -> Vec<&'static str> {
-    let mut names = Vec::new();
-    let mut at = 2;
-    while let Ok((record, next)) = takes::read(file, at) {
-        names.push(record.name());
-        at = next;
-    }
-    names
 }
 
 /// Random lists of calls as bytes, replayed on buffers that fit or not.
@@ -257,7 +303,7 @@ pub fn replays<A: Subject, B: Subject>(rng: &mut Rng, lists: u32, largest: u32) 
         }
         if rng.once_in(6) && !list.is_empty() {
             let at = rng.below(list.len() as u32) as usize;
-            list[at / 14 * 14] = rng.pick(&[0, 1, 10, 11, 255]);
+            list[at / 14 * 14] = rng.pick(&[0, 1, 10, 11, 12, 255]);
         }
         if rng.once_in(8) {
             list.resize(list.len() + rng.within(1, 13) as usize, 1);
@@ -336,6 +382,8 @@ fn spoiled(rng: &mut Rng) -> Record {
         Record::Fill { v, n, .. } => Record::Fill { d, a, v, n },
         Record::Lock { .. } => Record::Lock { a },
         Record::Unlock { .. } => Record::Unlock { a },
+        Record::Again { k, .. } => Record::Again { d, k },
+        Record::Set { n, .. } => Record::Set { d, n },
     }
 }
 

@@ -36,11 +36,13 @@ pub fn can_refuse() -> BTreeMap<&'static str, Vec<u32>> {
     all
 }
 
-/// What can refuse each record of a take. A run has judged the lengths, and its table is never damaged.
+/// What can refuse each record of a take. A run has judged the lengths, and its table is never damaged. again and set
+/// make no call, and nothing refuses them.
 pub fn can_refuse_records() -> BTreeMap<&'static str, Vec<u32>> {
     let mut all = can_refuse();
     all.retain(|name, _| CALLS.iter().any(|call| call.name() == *name));
     all.values_mut().for_each(|numbers| numbers.retain(|number| ![8, 20].contains(number)));
+    all.extend([("again", Vec::new()), ("set", Vec::new())]);
     all
 }
 

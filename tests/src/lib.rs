@@ -9,6 +9,7 @@ pub mod lent;
 #[cfg(feature = "library")]
 pub mod library;
 pub mod literal;
+pub mod outcome;
 pub mod plain;
 pub mod plain_c;
 pub mod random;

@@ -15,6 +15,7 @@ pub struct FlatRecord {
     pub a: u8,
     pub b: u8,
     pub byte: u8,
+    pub index: u16,
     pub word: u32,
 }
 
@@ -48,8 +49,8 @@ unsafe extern "C" {
     fn tulivombe_unlock(arena: *const u8, arena_len: usize, table: *mut u8, table_len: usize, p: u32) -> Answer;
     fn tulivombe_check(arena: *const u8, arena_len: usize, table: *const u8, table_len: usize, h: u32, i: u32) -> Answer;
     fn tulivombe_show(arena: *const u8, arena_len: usize, table: *const u8, table_len: usize, p: u32) -> Part;
-    fn tulivombe_run(file: *const u8, file_len: usize, arena: *mut u8, arena_len: usize, table: *mut u8, table_len: usize, answers: *mut u8, answers_len: usize) -> Ran;
-    fn tulivombe_run_panel(file: *const u8, file_len: usize, arena: *mut u8, arena_len: usize, table: *mut u8, table_len: usize, answers: *mut u8, answers_len: usize) -> Ran;
+    fn tulivombe_run(file: *const u8, file_len: usize, arena: *mut u8, arena_len: usize, table: *mut u8, table_len: usize, answers: *mut u8, answers_len: usize, budget: u32) -> Ran;
+    fn tulivombe_run_panel(file: *const u8, file_len: usize, arena: *mut u8, arena_len: usize, table: *mut u8, table_len: usize, answers: *mut u8, answers_len: usize, budget: u32) -> Ran;
     fn tulivombe_put_register(registers: *mut Registers, d: u8, v: u32) -> u32;
     fn tulivombe_replay(arena: *mut u8, arena_len: usize, table: *mut u8, table_len: usize, calls: *const u8, calls_len: usize, out: *mut u8, out_len: usize) -> u32;
     fn tulivombe_read_record(file: *const u8, file_len: usize, at: usize) -> FlatPlace;
@@ -128,15 +129,15 @@ impl Subject for Library {
     }
 
     #[inline]
-    fn run(file: &[u8], arena: &mut [u8], table: &mut [u8], answers: &mut [u8]) -> Ran {
+    fn run(file: &[u8], arena: &mut [u8], table: &mut [u8], answers: &mut [u8], budget: u32) -> Ran {
         let (f, a, t, o) = (file.as_ptr(), arena.as_mut_ptr(), table.as_mut_ptr(), answers.as_mut_ptr());
-        unsafe { tulivombe_run(f, file.len(), a, arena.len(), t, table.len(), o, answers.len()) }
+        unsafe { tulivombe_run(f, file.len(), a, arena.len(), t, table.len(), o, answers.len(), budget) }
     }
 
     #[inline]
-    fn run_panel(file: &[u8], arena: &mut [u8], table: &mut [u8], answers: &mut [u8]) -> Ran {
+    fn run_panel(file: &[u8], arena: &mut [u8], table: &mut [u8], answers: &mut [u8], budget: u32) -> Ran {
         let (f, a, t, o) = (file.as_ptr(), arena.as_mut_ptr(), table.as_mut_ptr(), answers.as_mut_ptr());
-        unsafe { tulivombe_run_panel(f, file.len(), a, arena.len(), t, table.len(), o, answers.len()) }
+        unsafe { tulivombe_run_panel(f, file.len(), a, arena.len(), t, table.len(), o, answers.len(), budget) }
     }
 
     #[inline]
@@ -186,12 +187,14 @@ fn flat(record: Record) -> FlatRecord {
         Record::Fill { d, a, v, n } => FlatRecord { operation: 8, d, a, byte: v, word: n, ..none },
         Record::Lock { a } => FlatRecord { operation: 9, a, ..none },
         Record::Unlock { a } => FlatRecord { operation: 10, a, ..none },
+        Record::Again { d, k } => FlatRecord { operation: 11, d, index: k, ..none },
+        Record::Set { d, n } => FlatRecord { operation: 12, d, word: n, ..none },
     }
 }
 
 /// The record of a flat one, which must have 0 in every field that its operation lacks.
 fn structured(given: FlatRecord) -> Record {
-    let FlatRecord { operation, d, a, b, byte, word } = given;
+    let FlatRecord { operation, d, a, b, byte, index, word } = given;
     let record = match operation {
         1 => Record::Get { d, n: word },
         2 => Record::Give { a },
@@ -203,6 +206,8 @@ fn structured(given: FlatRecord) -> Record {
         8 => Record::Fill { d, a, v: byte, n: word },
         9 => Record::Lock { a },
         10 => Record::Unlock { a },
+        11 => Record::Again { d, k: index },
+        12 => Record::Set { d, n: word },
         _ => panic!("the reader gave operation {operation}"),
     };
     assert_eq!(flat(record), given, "a field that the operation lacks is not 0");

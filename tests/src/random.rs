@@ -283,8 +283,17 @@ pub fn record(rng: &mut Rng, m: u32, registers: u32) -> Record {
     record_of(rng, m, d, a, b)
 }
 
-/// A record with these registers; values that are no pointers often go where no pointer is kept.
+/// Where repeats are counted, most of the time.
+const COUNTER: u8 = 11;
+
+/// A record with these registers; values that are no pointers often go where no pointer is kept. Repeats are rare: one
+/// by a pointer is all that the rest of a run then does. `file` sets their index.
 fn record_of(rng: &mut Rng, m: u32, d: u8, a: u8, b: u8) -> Record {
+    if rng.once_in(30) {
+        let d = if rng.once_in(8) { d } else { COUNTER };
+        let (k, n) = (rng.word() as u16, repeats(rng));
+        return rng.pick(&[Record::Again { d, k }, Record::Set { d, n }]);
+    }
     match rng.below(12) {
         0..=2 => Record::Get { d, n: amount(rng, m) },
         3 => Record::Give { a },
@@ -300,6 +309,26 @@ fn record_of(rng: &mut Rng, m: u32, d: u8, a: u8, b: u8) -> Record {
         10 => Record::Lock { a },
         _ => Record::Unlock { a },
     }
+}
+
+/// How often to go back: mostly a few times.
+fn repeats(rng: &mut Rng) -> u32 {
+    match rng.below(12) {
+        0 => rng.pick(&[u32::MAX, 4_095, 65_536]),
+        1 => rng.within(5, 60),
+        _ => rng.below(5),
+    }
+}
+
+/// Records that set a counter and go back by it, to the record after the set. The again is given the distance that it
+/// goes back by in place of an index.
+fn repeated(rng: &mut Rng, m: u32, registers: u32) -> Vec<Record> {
+    let counter = if rng.once_in(4) { rng.below(registers) as u8 } else { COUNTER };
+    let length = rng.within(1, 5);
+    let mut records = vec![Record::Set { d: counter, n: repeats(rng) }];
+    records.extend((0..length).map(|_| record(rng, m, registers)));
+    records.push(Record::Again { d: counter, k: length as u16 });
+    records
 }
 
 /// Records that store four bytes and copy them a few bytes up or down, over themselves.
@@ -386,6 +415,23 @@ fn locked_block(rng: &mut Rng, m: u32, registers: u32) -> [Record; 8] {
     ]
 }
 
+/// Gives each again the index of a record before it, and in one file of twelve now and then another. One that is the
+/// first record has none before it, and mostly becomes a set.
+fn aim(rng: &mut Rng, records: &mut [Record]) {
+    let stray = rng.once_in(12);
+    for (index, record) in (0..).zip(records) {
+        let Record::Again { d, k } = *record else { continue };
+        *record = match rng.below(8) {
+            0..=2 if stray => Record::Again { d, k: index + rng.pick(&[0, 0, 1, 255, 256]) },
+            _ if index == 0 => Record::Set { d, n: repeats(rng) },
+            0 => Record::Again { d, k: 0 },
+            1 => Record::Again { d, k: index - 1 },
+            2 => Record::Again { d, k: rng.below(index.into()) as u16 },
+            _ => Record::Again { d, k: index - k.clamp(1, index.min(5)) },
+        };
+    }
+}
+
 /// A file with up to `most` records, broken once in three.
 pub fn file(rng: &mut Rng, m: u32, most: u32) -> Vec<u8> {
     let registers = rng.pick(&[3, 6, 16]);
@@ -399,11 +445,14 @@ pub fn file(rng: &mut Rng, m: u32, most: u32) -> Vec<u8> {
             3 => records.extend(given_back(rng, m, registers)),
             4 => records.extend(dead_and_marked(rng, m, registers)),
             5 => records.extend(read_and_marked(rng, m, registers)),
+            6 => records.extend(repeated(rng, m, registers)),
             _ => records.push(record(rng, m, registers)),
         }
     }
+    records.truncate(wanted);
+    aim(rng, &mut records);
     let mut file = vec![takes::VERSION, m as u8];
-    records.into_iter().take(wanted).for_each(|record| append(&mut file, record));
+    records.into_iter().for_each(|record| append(&mut file, record));
     if rng.once_in(3) {
         break_file(rng, &mut file);
     }
@@ -441,5 +490,20 @@ fn break_file(rng: &mut Rng, file: &mut Vec<u8>) {
                 file[at] = if rng.once_in(2) { rng.byte() } else { rng.below(18) as u8 };
             }
         }
+    }
+}
+
+/// A budget for a run that has so many steps at most: around them, around the most that any budget allows, or any.
+pub fn budget(rng: &mut Rng, steps: u32) -> u32 {
+    match rng.below(12) {
+        0 => 0,
+        1 | 2 => rng.within(1, 5),
+        3 => rng.below(steps + 1),
+        4 => steps.saturating_sub(1),
+        5..=7 => steps,
+        8 => steps + 1,
+        9 => steps + rng.below(200),
+        10 => rng.pick(&[4_095, 4_096, 4_097, u32::MAX]),
+        _ => rng.word() >> rng.within(0, 31),
     }
 }

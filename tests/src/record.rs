@@ -13,10 +13,12 @@ pub enum Record {
     Fill { d: u8, a: u8, v: u8, n: u32 },
     Lock { a: u8 },
     Unlock { a: u8 },
+    Again { d: u8, k: u16 },
+    Set { d: u8, n: u32 },
 }
 
 impl Record {
-    /// The name of its operation, which is that of the call that it makes.
+    /// The name of its operation, which is that of the call that it makes if it makes one.
     pub fn name(self) -> &'static str {
         match self {
             Record::Get { .. } => "get",
@@ -29,6 +31,8 @@ impl Record {
             Record::Fill { .. } => "fill",
             Record::Lock { .. } => "lock",
             Record::Unlock { .. } => "unlock",
+            Record::Again { .. } => "again",
+            Record::Set { .. } => "set",
         }
     }
 }

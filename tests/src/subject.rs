@@ -42,13 +42,22 @@ pub struct Ran {
     pub number: u32,
     pub registers: [u32; 16],
     pub count: u32,
+    pub stopped: bool,
+}
+
+impl Ran {
+    pub fn refused(number: u32) -> Ran {
+        Ran { number, registers: [0; 16], count: 0, stopped: false }
+    }
 }
 
 impl From<Result<runner::Finished, Refusal>> for Ran {
     fn from(outcome: Result<runner::Finished, Refusal>) -> Ran {
         match outcome {
-            Ok(done) => Ran { number: 0, count: done.count as u32, registers: done.registers },
-            Err(refusal) => Ran { number: refusal.number(), count: 0, registers: [0; 16] },
+            Ok(runner::Finished { registers, count, stopped }) => {
+                Ran { number: 0, registers, count: count as u32, stopped }
+            }
+            Err(refusal) => Ran::refused(refusal.number()),
         }
     }
 }
@@ -62,10 +71,17 @@ pub enum Caller {
 
 impl Caller {
     /// The subject's run for this caller.
-    pub fn run<S: Subject>(self, file: &[u8], arena: &mut [u8], table: &mut [u8], answers: &mut [u8]) -> Ran {
+    pub fn run<S: Subject>(
+        self,
+        file: &[u8],
+        arena: &mut [u8],
+        table: &mut [u8],
+        answers: &mut [u8],
+        budget: u32,
+    ) -> Ran {
         match self {
-            Caller::Upload => S::run(file, arena, table, answers),
-            Caller::Panel => S::run_panel(file, arena, table, answers),
+            Caller::Upload => S::run(file, arena, table, answers, budget),
+            Caller::Panel => S::run_panel(file, arena, table, answers, budget),
         }
     }
 }
@@ -88,8 +104,8 @@ pub trait Subject {
     fn unlock(arena: &[u8], table: &mut [u8], p: u32) -> Answer;
     fn check(arena: &[u8], table: &[u8], h: u32, i: u32) -> Answer;
     fn show(arena: &[u8], table: &[u8], p: u32) -> Part;
-    fn run(file: &[u8], arena: &mut [u8], table: &mut [u8], answers: &mut [u8]) -> Ran;
-    fn run_panel(file: &[u8], arena: &mut [u8], table: &mut [u8], answers: &mut [u8]) -> Ran;
+    fn run(file: &[u8], arena: &mut [u8], table: &mut [u8], answers: &mut [u8], budget: u32) -> Ran;
+    fn run_panel(file: &[u8], arena: &mut [u8], table: &mut [u8], answers: &mut [u8], budget: u32) -> Ran;
     fn replay(arena: &mut [u8], table: &mut [u8], calls: &[u8], out: &mut [u8]) -> u32;
     fn read_record(file: &[u8], at: usize) -> Place;
     fn write_head(out: &mut [u8], m: u32) -> Answer;
@@ -174,13 +190,13 @@ impl Subject for Plain {
     }
 
     #[inline(never)]
-    fn run(file: &[u8], arena: &mut [u8], table: &mut [u8], answers: &mut [u8]) -> Ran {
-        runner::run(file, arena, table, answers).into()
+    fn run(file: &[u8], arena: &mut [u8], table: &mut [u8], answers: &mut [u8], budget: u32) -> Ran {
+        runner::run(file, arena, table, answers, budget).into()
     }
 
     #[inline(never)]
-    fn run_panel(file: &[u8], arena: &mut [u8], table: &mut [u8], answers: &mut [u8]) -> Ran {
-        runner::run_panel(file, arena, table, answers).into()
+    fn run_panel(file: &[u8], arena: &mut [u8], table: &mut [u8], answers: &mut [u8], budget: u32) -> Ran {
+        runner::run_panel(file, arena, table, answers, budget).into()
     }
 
     #[inline(never)]

@@ -3,7 +3,7 @@
 
 use std::path::Path;
 use std::process::Command;
-use tulivombe_tests::plain::runner::{self, SCREENFUL};
+use tulivombe_tests::plain::runner::{self, MOST_STEPS, SCREENFUL};
 use tulivombe_tests::plain::{replay, takes, Refusal};
 use tulivombe_tests::vectors::root;
 
@@ -52,6 +52,7 @@ fn header_compiles_as_c_and_cpp() {
 fn numbers_are_alike() {
     let expected = [
         ("SCREENFUL", SCREENFUL),
+        ("MOST_STEPS", MOST_STEPS),
         ("LONGEST_FILE", takes::LONGEST),
         ("ANSWER_LENGTH", runner::ANSWER),
         ("CALL_LENGTH", replay::CALL),
@@ -59,6 +60,7 @@ fn numbers_are_alike() {
         ("TOO_MANY_RECORDS", Refusal::TooManyRecords.number() as usize),
         ("OUTSIDE", Refusal::Outside.number() as usize),
         ("LOCKED", Refusal::Locked.number() as usize),
+        ("NOT_BACK", Refusal::NotBack.number() as usize),
     ];
     let lines: String = expected.iter().map(|(name, number)| format!("{name} {number}\n")).collect();
     assert_eq!(program("tests/c/numbers.c", "c", &[]), lines);
@@ -89,11 +91,13 @@ mod library {
             ("ran", size_of::<Ran>()),
             ("ran.registers", offset_of!(Ran, registers)),
             ("ran.count", offset_of!(Ran, count)),
+            ("ran.stopped", offset_of!(Ran, stopped)),
             ("record", size_of::<FlatRecord>()),
             ("record.d", offset_of!(FlatRecord, d)),
             ("record.a", offset_of!(FlatRecord, a)),
             ("record.b", offset_of!(FlatRecord, b)),
             ("record.byte", offset_of!(FlatRecord, byte)),
+            ("record.index", offset_of!(FlatRecord, index)),
             ("record.word", offset_of!(FlatRecord, word)),
             ("place", size_of::<FlatPlace>()),
             ("place.record", offset_of!(FlatPlace, record)),
@@ -147,9 +151,21 @@ mod library {
         assert_eq!(linked("tests/c/registers.c", "c++"), lines);
     }
 
+    /// What an operation lacks is ignored, and index and word are fields of their own.
+    #[test]
+    fn writer_takes_the_fields_of_the_operation() {
+        let full = FlatRecord { operation: 0, d: 3, a: 99, b: 99, byte: 99, index: 0x0102, word: 0x0304_0506 };
+        for (operation, bytes) in [(11, &[4, 11, 3, 1, 2][..]), (12, &[6, 12, 3, 3, 4, 5, 6])] {
+            let mut out = [0xA5; 9];
+            let value = bytes.len() as u32;
+            assert_eq!(write_flat(&mut out, FlatRecord { operation, ..full }), Answer { number: 0, value });
+            assert_eq!((&out[..bytes.len()], &out[bytes.len()..]), (bytes, &[0xA5; 9][bytes.len()..]));
+        }
+    }
+
     #[test]
     fn unknown_operations_are_refused_by_the_writer() {
-        for operation in [0, 11, 128, 255] {
+        for operation in [0, 13, 128, 255] {
             let mut out = [0xA5; 16];
             let record = FlatRecord { operation, d: 99, ..FlatRecord::default() };
             assert_eq!(write_flat(&mut out, record), Answer { number: 5, value: 0 });

@@ -4,7 +4,7 @@
 use std::collections::BTreeSet;
 use tulivombe_tests::call::Call;
 use tulivombe_tests::ledger::{can_refuse_records, damaged, sought, Ledger};
-use tulivombe_tests::literal::{each_record, ledger, Literal};
+use tulivombe_tests::literal::{each_call, ledger, Literal};
 use tulivombe_tests::plain::heap::{BASE, LOCK, MARK};
 use tulivombe_tests::plain::takes::VERSION;
 use tulivombe_tests::random::{self, append, times, Rng};
@@ -224,7 +224,7 @@ fn in_takes<S: Subject>(m: u32) {
     for caller in [Caller::Upload, Caller::Panel] {
         let (mut arena, mut table) = (vec![0x5A; 1 << m], vec![0x5A; 1 << (m - 4)]);
         let mut answers = vec![0x5A; 5 * records.len()];
-        let ran = caller.run::<S>(&file, &mut arena, &mut table, &mut answers);
+        let ran = caller.run::<S>(&file, &mut arena, &mut table, &mut answers, records.len() as u32);
         assert_eq!((ran.number, ran.count as usize), (0, records.len()), "{}, {caller:?}", S::NAME);
         for (k, ((record, number), answer)) in records.iter().zip(answers.chunks_exact(5)).enumerate() {
             assert_eq!(u32::from(answer[0]), *number, "{}, {caller:?}, m = {m}, record {k}: {record:?}", S::NAME);
@@ -347,7 +347,7 @@ fn random_takes_meet_marked_pointers_in_every_way() {
     for _ in 0..12_000 * times() {
         let m = rng.within(5, 9);
         let file = random::file(rng, m, 120);
-        each_record(&file, m, |before, call, number| meet(&mut met, before, call, number));
+        each_call(&file, m, |before, call, number| meet(&mut met, before, call, number));
     }
     assert!(met.is_subset(&expected), "{met:?}");
     expected.retain(|(_, kinds, _)| kinds.iter().filter(|&&kind| (3..DAMAGED).contains(&kind)).count() < 2);

@@ -4,7 +4,7 @@
 use std::collections::BTreeSet;
 use tulivombe_tests::call::Call;
 use tulivombe_tests::ledger::Ledger;
-use tulivombe_tests::literal::{call_of, each_record, ledger, Literal};
+use tulivombe_tests::literal::{each_call, ledger, Between, Literal};
 use tulivombe_tests::plain::heap::{BASE, LOCK, MARK};
 use tulivombe_tests::plain::takes::VERSION;
 use tulivombe_tests::random::{self, append, times, Rng};
@@ -368,7 +368,7 @@ fn in_takes<S: Subject>(m: u32) {
     for caller in [Caller::Upload, Caller::Panel] {
         let (mut arena, mut table) = (vec![0x5A; 1 << m], vec![LOCK | 4; 1 << (m - 4)]);
         let mut answers = vec![0x5A; expected.len()];
-        let ran = caller.run::<S>(&file, &mut arena, &mut table, &mut answers);
+        let ran = caller.run::<S>(&file, &mut arena, &mut table, &mut answers, records().len() as u32);
         let what = format!("{}, {caller:?}, m = {m}", S::NAME);
         assert_eq!((ran.number, ran.count as usize), (0, records().len()), "{what}");
         for (k, (found, expected)) in answers.chunks(5).zip(expected.chunks(5)).enumerate() {
@@ -381,19 +381,18 @@ fn in_takes<S: Subject>(m: u32) {
 
 /// The calls that the records make, replayed. What lock and unlock do not name is not looked at.
 fn in_replays<S: Subject>(m: u32) {
-    let mut registers = [0; 16];
+    let mut between = Between::first();
     let mut list = Vec::new();
     for (record, number, value) in records() {
-        let (call, d) = call_of(record, &registers);
-        let mut bytes = call.encode();
-        if let Call::Lock { .. } | Call::Unlock { .. } = call {
-            bytes[1] = 0xA5;
-            bytes[6..].fill(0xA5);
-        }
-        list.extend_from_slice(&bytes);
-        if let (0, Some(d)) = (number, d) {
-            registers[usize::from(d)] = value;
-        }
+        between.carry_out(record, |call| {
+            let mut bytes = call.encode();
+            if let Call::Lock { .. } | Call::Unlock { .. } = call {
+                bytes[1] = 0xA5;
+                bytes[6..].fill(0xA5);
+            }
+            list.extend_from_slice(&bytes);
+            Answer { number, value }
+        });
     }
     let expected = as_bytes(records().into_iter().map(|(_, number, value)| (number, value)));
     let (mut arena, mut table) = (vec![0x5A; 1 << m], vec![LOCK | 4; 1 << (m - 4)]);
@@ -401,7 +400,7 @@ fn in_replays<S: Subject>(m: u32) {
     assert_eq!(S::replay(&mut arena, &mut table, &list, &mut out), 0, "{}", S::NAME);
     assert_eq!(out, expected, "{}: replay, m = {m}", S::NAME);
     assert!((arena, table) == left_by_them(m), "{}: the buffers after a replay, m = {m}", S::NAME);
-    for operation in [0, 255] {
+    for operation in [0, 11, 12, 255] {
         list[4 * 14] = operation;
         assert_eq!(S::replay(&mut vec![0; 1 << m], &mut vec![0; 1 << (m - 4)], &list, &mut out), 5, "{}", S::NAME);
     }
@@ -528,7 +527,7 @@ fn random_takes_meet_locked_blocks_in_every_way() {
     for _ in 0..4_000 * times() {
         let m = rng.within(5, 9);
         let file = random::file(rng, m, 120);
-        each_record(&file, m, |before, call, number| meet(&mut met, before, call, number));
+        each_call(&file, m, |before, call, number| meet(&mut met, before, call, number));
     }
     assert_eq!(met, every_way());
 }

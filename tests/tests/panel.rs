@@ -1,18 +1,18 @@
 //! Request 1 of document 02: both run calls side by side on takes of 63, 64, 65 and 70 records, good and bad.
 
 use tulivombe_tests::literal::Literal;
-use tulivombe_tests::plain::takes::{self, LONGEST};
+use tulivombe_tests::outcome::{self, Outcome};
+use tulivombe_tests::plain::takes::LONGEST;
 use tulivombe_tests::record::Record;
-use tulivombe_tests::subject::{Caller, Plain, Ran, Subject};
+use tulivombe_tests::subject::{Caller, Plain, Subject};
 
 const SIZE: usize = 256;
 
-/// A take for an arena of 256 bytes whose records use all ten operations, most of them accepted.
+/// A take for an arena of 256 bytes whose records make all ten calls, most of them accepted.
 fn take(records: usize) -> Vec<u8> {
-    let mut file = vec![1, 8];
-    for k in 0..records as u8 {
+    let record = |k: u8| {
         let (d, n) = (k / 10 % 8, u32::from(k));
-        let record = match k % 10 {
+        match k % 10 {
             0 => Record::Get { d, n: 1 + n % 32 },
             1 => Record::Fill { d: 8, a: d, v: k, n: 9 },
             2 => Record::Step { d: 9, a: d, i: n % 20 },
@@ -23,15 +23,12 @@ fn take(records: usize) -> Vec<u8> {
             7 => Record::Copy { d: 12, a: 0, b: d, n },
             8 => Record::Unlock { a: d },
             _ => Record::Give { a: d / 2 },
-        };
-        let mut bytes = [0; 9];
-        let count = takes::write(&mut bytes, record).expect("a good record");
-        file.extend_from_slice(&bytes[..count]);
-    }
-    file
+        }
+    };
+    outcome::take(8, &(0..records as u8).map(record).collect::<Vec<_>>())
 }
 
-/// What is wrong with a run, and the upload's number for it. The four of a record are faults of the last one.
+/// What is wrong with a run, and the upload's number for it. The five of a record are faults of the last one.
 #[derive(Clone, Copy, Debug, PartialEq, Eq)]
 enum Fault {
     Nothing = 0,
@@ -40,48 +37,44 @@ enum Fault {
     Operation = 5,
     OperationLength = 6,
     Register = 7,
+    NotBack = 29,
     Arena = 8,
     ShortSlice = 9,
 }
 
 use Fault::*;
 
-const FAULTS: [Fault; 8] = [Nothing, LongFile, RecordLength, Operation, OperationLength, Register, Arena, ShortSlice];
+const FAULTS: [Fault; 9] =
+    [Nothing, LongFile, RecordLength, Operation, OperationLength, Register, NotBack, Arena, ShortSlice];
 
 /// A long file goes on with gives beyond its limit.
 fn file(records: usize, fault: Fault) -> Vec<u8> {
     let last: &[u8] = match fault {
         RecordLength => &[0],
-        Operation => &[2, 0, 0],
+        Operation => &[2, 13, 0],
         OperationLength => &[3, 2, 0, 0],
         Register => &[2, 2, 16],
+        NotBack => &[4, 11, 0, 255, 255],
         LongFile => return [take(records), [2, 2, 0].repeat(LONGEST / 3)].concat(),
         Nothing | Arena | ShortSlice => return take(records),
     };
     [&take(records - 1), last].concat()
 }
 
-/// What a run returns and leaves.
-#[derive(Clone, Debug, PartialEq, Eq)]
-struct Outcome {
-    ran: Ran,
-    arena: Vec<u8>,
-    table: Vec<u8>,
-    answers: Vec<u8>,
+/// How many bytes of arena and answer slice are lent.
+fn lengths(records: usize, fault: Fault) -> (usize, usize) {
+    (if fault == Arena { 2 * SIZE } else { SIZE }, 5 * records - usize::from(fault == ShortSlice))
 }
 
-/// What is lent, every byte 165, and what a refused run returns with it.
 fn refused(number: u32, records: usize, fault: Fault) -> Outcome {
-    let size = if fault == Arena { 2 * SIZE } else { SIZE };
-    let room = 5 * records - usize::from(fault == ShortSlice);
-    let ran = Ran { number, registers: [0; 16], count: 0 };
-    Outcome { ran, arena: vec![165; size], table: vec![165; SIZE / 16], answers: vec![165; room] }
+    let (arena, answers) = lengths(records, fault);
+    Outcome::refused(number, arena, answers)
 }
 
+/// The run with a budget of as many records as the file has.
 fn outcome<S: Subject>(caller: Caller, records: usize, fault: Fault) -> Outcome {
-    let mut o = refused(0, records, fault);
-    o.ran = caller.run::<S>(&file(records, fault), &mut o.arena, &mut o.table, &mut o.answers);
-    o
+    let (arena, answers) = lengths(records, fault);
+    Outcome::of::<S>(caller, &file(records, fault), records as u32, arena, answers)
 }
 
 fn compare<S: Subject>(records: usize, fault: Fault) {

@@ -1,5 +1,5 @@
-//! `./run`, the program `takerun` under it, and the demonstration's text. What they must print comes from document 01,
-//! the stored vectors and both references.
+//! `./run`, the program `takerun` under it, the texts of the examples and the manual's takes. What they must print comes
+//! from document 01, the stored vectors and both references.
 
 use std::path::Path;
 use std::process::{Command, Output};
@@ -34,7 +34,7 @@ fn run_needs_a_file_that_it_can_read() {
     complains(&[&demonstration, &demonstration], "usage: ./run [FILE]");
 }
 
-/// A record of the demonstration's text: its bytes, its words and the line that it prints.
+/// A record of an example's text: its bytes, its words and the lines that it prints.
 struct Explained<'a> {
     bytes: Vec<u8>,
     words: Vec<&'a str>,
@@ -72,6 +72,8 @@ fn spelled(record: Record) -> String {
         Record::Fill { d, a, v, n } => format!("fill r{d} r{a} {v} {n}"),
         Record::Lock { a } => format!("lock r{a}"),
         Record::Unlock { a } => format!("unlock r{a}"),
+        Record::Again { d, k } => format!("again r{d} {k}"),
+        Record::Set { d, n } => format!("set r{d} {n}"),
     }
 }
 
@@ -80,13 +82,15 @@ fn quoted(text: &str) -> Vec<&str> {
     text.split('`').skip(1).step_by(2).collect()
 }
 
-#[test]
-fn demonstrations_text_says_what_its_take_does() {
-    let (file, text) = (bytes(&root().join("examples/demo.take")), text(&root().join("examples/demo.txt")));
+/// Holds an example's text to its take: the bytes and words of each record, and the lines that it prints, one for each
+/// time that it is carried out.
+fn text_says_what_the_take_does(name: &str) {
+    let example = |extension: &str| root().join("examples").join(name).with_extension(extension);
+    let (file, text) = (bytes(&example("take")), text(&example("txt")));
     let records = explained(&text);
     let written: Vec<u8> = records.iter().flat_map(|record| record.bytes.clone()).collect();
-    assert_eq!(file, [&[1, 8], &written[..]].concat());
-    assert!(text.contains("The file starts with 01 08:"));
+    assert_eq!(file[2..], written);
+    assert!(text.contains(&format!("The file starts with {:02X} {:02X}:", file[0], file[1])));
     for Explained { bytes, words, .. } in &records {
         let (record, _) = takes::read(bytes, 0).expect("the text has whole records");
         // numbers may be left out at the end
@@ -95,10 +99,39 @@ fn demonstrations_text_says_what_its_take_does() {
         assert!(spelled.split(' ').collect::<Vec<_>>().starts_with(&said), "{spelled}: {words:?}");
     }
     let [first, last] = quoted(&text)[..] else { panic!("the first and the last line are quoted") };
-    let lines: Vec<&str> =
-        [first].into_iter().chain(records.iter().map(|record| record.printed)).chain([last]).collect();
-    assert_eq!(takerun::<Plain>(&file).lines().collect::<Vec<_>>(), lines);
-    assert_eq!(takerun::<Literal>(&file).lines().collect::<Vec<_>>(), lines);
+    let printed = records.iter().flat_map(|record| record.printed.split(", "));
+    prints_in_some_order(&file, printed.chain([first, last]).collect());
+}
+
+/// Both references print these lines, which stand in the order of the records in the file.
+fn prints_in_some_order(file: &[u8], mut lines: Vec<&str>) {
+    lines.sort_by_key(|line| match line.split(' ').next() {
+        Some("heap") => 0,
+        Some(index) => index.parse().map_or(usize::MAX, |index: usize| index + 1),
+        None => usize::MAX,
+    });
+    assert_eq!(takerun::<Plain>(file).lines().collect::<Vec<_>>(), lines);
+    assert_eq!(takerun::<Literal>(file).lines().collect::<Vec<_>>(), lines);
+}
+
+#[test]
+fn texts_of_the_examples() {
+    ["demo", "roll"].into_iter().for_each(text_says_what_the_take_does);
+}
+
+/// The manual's tables of takes: in a row the bytes of a record and the lines that it prints.
+#[test]
+fn takes_of_the_manual() {
+    let manual = text(&root().join("docs/MANUAL.md"));
+    let tables: Vec<&str> =
+        manual.split("| bytes (hexadecimal) | record | printed |\n|---|---|---|\n").skip(1).collect();
+    assert!(!tables.is_empty(), "the manual has the worked example");
+    for table in tables {
+        let rows = table.lines().map_while(|line| line.strip_prefix('|'));
+        let columns: Vec<Vec<&str>> = rows.map(|row| row.split('|').collect()).collect();
+        let file: Vec<u8> = columns.iter().flat_map(|row| quoted(row[0])).flat_map(from_hexadecimal).collect();
+        prints_in_some_order(&file, columns.iter().flat_map(|row| quoted(row[2])).collect());
+    }
 }
 
 /// The proved program, which `./run` has built where it was not.
@@ -130,6 +163,8 @@ mod proved {
     fn run_and_takerun_print_what_the_paper_and_the_vectors_say() {
         let demonstration = bytes(&root().join("examples/demo.take"));
         prints(&run(&[]), &takerun::<Literal>(&demonstration), "./run");
+        let roll = root().join("examples/roll.take");
+        prints(&run(&[&roll]), &takerun::<Literal>(&bytes(&roll)), "the roll");
         prints(&run(&[&kept("worked.take", &from_hexadecimal(WORKED))]), PRINTED, "the worked take");
         prints(&run(&[&kept("empty.take", b"")]), "refused 1\n", "an empty file");
         for (take, printed) in stored().iter().flat_map(|text| text.takes()) {

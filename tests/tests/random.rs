@@ -2,7 +2,7 @@
 //! TULIVOMBE_TIMES=NUMBER makes that many times as many cases.
 
 use std::collections::BTreeMap;
-use tulivombe_tests::differential::Met;
+use tulivombe_tests::differential::{Met, WAYS};
 use tulivombe_tests::ledger::{self, can_refuse, can_refuse_records};
 use tulivombe_tests::literal::Literal;
 use tulivombe_tests::plain::heap;
@@ -26,18 +26,22 @@ fn compare<S: Subject, T: Subject>(name: &str, cases: u32, largest: u32) {
     let cases = cases * times();
     let calls = differential::calls::<S, T>(rng, cases, largest);
     assert_eq!(calls.met(), all_met(can_refuse()));
-    let (runs, records) = differential::runs::<S, T>(rng, Caller::Upload, cases, largest);
-    assert_eq!(runs.met(), met("run", [0, 1, 2, 3, 4, 5, 6, 7, 8, 9]));
-    assert_eq!(records.met(), all_met(can_refuse_records()));
-    let (panel_runs, panel_records) = differential::runs::<S, T>(rng, Caller::Panel, cases, largest);
-    assert_eq!(panel_runs.met(), met("run", [0, 1, 2, 3, 4, 5, 6, 7, 8, 9, 26]));
-    assert_eq!(panel_records.met(), all_met(can_refuse_records()));
+    let uploads = differential::runs::<S, T>(rng, Caller::Upload, cases, largest);
+    assert_eq!(uploads.numbers.met(), met("run", [0, 1, 2, 3, 4, 5, 6, 7, 8, 9, 29]));
+    let panels = differential::runs::<S, T>(rng, Caller::Panel, cases, largest);
+    assert_eq!(panels.numbers.met(), met("run", [0, 1, 2, 3, 4, 5, 6, 7, 8, 9, 26, 29]));
+    for runs in [&uploads, &panels] {
+        assert_eq!(runs.records.met(), all_met(can_refuse_records()));
+        assert_eq!(runs.ways, WAYS.into());
+    }
     let replays = differential::replays::<S, T>(rng, cases, largest);
     assert_eq!(replays.met(), met("replay", [0, 4, 5, 8, 9]));
     differential::reader::<S, T>(rng, cases);
     differential::writer::<S, T>(rng, 4 * cases);
     let calls = calls.total();
-    let (runs, records) = (runs.total() + panel_runs.total(), records.total() + panel_records.total());
+    let (runs, records) = [uploads, panels]
+        .iter()
+        .fold((0, 0), |(runs, records), met| (runs + met.numbers.total(), records + met.records.total()));
     println!("{name}: {calls} calls, {runs} files with {records} records carried out, {} replays", replays.total());
 }
 

@@ -4,11 +4,12 @@ use mathlib.Core.Path.{_≡_, refl, sym, _∙_, ap}
 use mathlib.Core.List.{List}
 use mathlib.Core.Option.{none}
 use borrow.Author.Tests.{le-leb, lt-leb}
-use Rattle.heap.specs.OperationNumbers.{lastOperation}
+use Rattle.takes.specs.Operations.{lastInTable}
+use Rattle.takes.proofs.Operations.{known-numbers}
 use Rattle.takes.specs.Reading.{Given, given}
 use Rattle.takes.specs.Writing.{WriteOutcome, writeRecord}
 use Rattle.takes.specs.declared.Record.{Record}
-use Rattle.takes.specs.declared.Record.the-variants.{Unlock}
+use Rattle.takes.specs.declared.Record.the-variants.{Set}
 use Rattle.takes.specs.declared.Reading.{Reading}
 use Rattle.takes.specs.declared.Reading.the-variants.{Found, Refused}
 use Rattle.common.proofs.Arms.{NoneOf, no-arm}
@@ -23,10 +24,10 @@ module _ (f : FlatRecord) where
   record-is k e = sym (ap (λ (n : ℕ). recordAs n f) e)
 
   -- no arm before has the operation
-  pub unlock-is : NoneOf (f .operation) 9 → Unlock (f .a) ≡ recordFromFlat f
-  unlock-is n =
-      let t = no-arm (f .operation) 9 n in
-      rw (t 1 refl, t 2 refl, t 3 refl, t 4 refl, t 5 refl, t 6 refl, t 7 refl, t 8 refl, t 9 refl)
+  pub set-is : NoneOf (f .operation) 11 → Set (f .d) (f .word) ≡ recordFromFlat f
+  set-is n =
+      let t = no-arm (f .operation) 11 n in
+      rw (t 1 refl, t 2 refl, t 3 refl, t 4 refl, t 5 refl, t 6 refl, t 7 refl, t 8 refl, t 9 refl, t 10 refl, t 11 refl)
 
 module _ {g : Given} (reading : Reading) where
   pub found-is : (r : Record) (next : ℕ) (f : FlatRecord) → given reading ≡ g → reading ≡ Found r next → f ≡ flat r
@@ -42,13 +43,14 @@ module _ {g : Given} (reading : Reading) where
 module _ (f : FlatRecord) (out : List ℕ) where
   pub below-is : f .operation < 1 → unknown out ≡ writeFlat f out
   unfolding writeFlat
-  below-is l = rw (lt-leb 1 (f .operation) l)
+  below-is l = rw (known-numbers (f .operation), lt-leb 1 (f .operation) l)
 
-  pub above-is : 1 ≤ f .operation → lastOperation < f .operation → unknown out ≡ writeFlat f out
+  pub above-is : 1 ≤ f .operation → lastInTable < f .operation → unknown out ≡ writeFlat f out
   unfolding writeFlat
-  above-is k l = rw (le-leb 1 (f .operation) k, lt-leb (f .operation) lastOperation l)
+  above-is k l = rw (known-numbers (f .operation), le-leb 1 (f .operation) k, lt-leb (f .operation) lastInTable l)
 
-  pub known-is : 1 ≤ f .operation → f .operation ≤ lastOperation → {r : Record} {s : WriteOutcome} → r ≡ recordFromFlat f → s ≡ writeRecord r out
+  pub known-is : 1 ≤ f .operation → f .operation ≤ lastInTable → {r : Record} {s : WriteOutcome} → r ≡ recordFromFlat f → s ≡ writeRecord r out
       → s ≡ writeFlat f out
   unfolding writeFlat
-  known-is k l e q = q ∙ ap (λ (x : Record). writeRecord x out) e ∙ rw (le-leb 1 (f .operation) k, le-leb (f .operation) lastOperation l)
+  known-is k l e q =
+      q ∙ ap (λ (x : Record). writeRecord x out) e ∙ rw (known-numbers (f .operation), le-leb 1 (f .operation) k, le-leb (f .operation) lastInTable l)

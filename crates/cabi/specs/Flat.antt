@@ -4,34 +4,36 @@ use mathlib.Core.Bool.{cond}
 use mathlib.Core.List.{List}
 use mathlib.Core.Option.{Option, none, some}
 use lib.Dec.{eqb}
-use Rattle.heap.specs.OperationNumbers.{isOperation}
 use Rattle.heap.specs.declared.Answer.{Answer}
+use Rattle.takes.specs.Operations.{known}
 use Rattle.takes.specs.Reading.{Given}
 use Rattle.takes.specs.Writing.{WriteOutcome, writeRecord}
 use Rattle.takes.specs.declared.Record.{Record}
-use Rattle.takes.specs.declared.Record.the-variants.{Get, Give, Step, Read, Write, Left, Copy, Fill, Lock, Unlock}
+use Rattle.takes.specs.declared.Record.the-variants.{Get, Give, Step, Read, Write, Left, Copy, Fill, Lock, Unlock, Again, Set}
 use Rattle.cabi.specs.declared.FlatRecord.{FlatRecord}
 use Rattle.cabi.specs.declared.FlatReading.{FlatReading}
 
-abbrev pub flatOf : (operation d a b byte word : ℕ) → FlatRecord
-flatOf o d a b y w = record { operation = o; d = d; a = a; b = b; byte = y; word = w }
+abbrev pub flatOf : (operation d a b byte index word : ℕ) → FlatRecord
+flatOf o d a b y k w = record { operation = o; d = d; a = a; b = b; byte = y; index = k; word = w }
 
 -- a field that the operation lacks is 0
 abbrev pub flat : Record → FlatRecord
-flat (Get d n) = flatOf 1 d 0 0 0 n
-flat (Give a) = flatOf 2 0 a 0 0 0
-flat (Step d a i) = flatOf 3 d a 0 0 i
-flat (Read d a w) = flatOf 4 d a 0 w 0
-flat (Write a w v) = flatOf 5 0 a 0 w v
-flat (Left d a) = flatOf 6 d a 0 0 0
-flat (Copy d a b n) = flatOf 7 d a b 0 n
-flat (Fill d a v n) = flatOf 8 d a 0 v n
-flat (Lock a) = flatOf 9 0 a 0 0 0
-flat (Unlock a) = flatOf 10 0 a 0 0 0
+flat (Get d n) = flatOf 1 d 0 0 0 0 n
+flat (Give a) = flatOf 2 0 a 0 0 0 0
+flat (Step d a i) = flatOf 3 d a 0 0 0 i
+flat (Read d a w) = flatOf 4 d a 0 w 0 0
+flat (Write a w v) = flatOf 5 0 a 0 w 0 v
+flat (Left d a) = flatOf 6 d a 0 0 0 0
+flat (Copy d a b n) = flatOf 7 d a b 0 0 n
+flat (Fill d a v n) = flatOf 8 d a 0 v 0 n
+flat (Lock a) = flatOf 9 0 a 0 0 0 0
+flat (Unlock a) = flatOf 10 0 a 0 0 0 0
+flat (Again d k) = flatOf 11 d 0 0 0 k 0
+flat (Set d n) = flatOf 12 d 0 0 0 0 n
 
 -- no record is all 0
 abbrev pub flatFound : Option Record → FlatRecord
-flatFound none = flatOf 0 0 0 0 0 0
+flatFound none = flatOf 0 0 0 0 0 0 0
 flatFound (some r) = flat r
 
 abbrev pub flatReading : Given → FlatReading
@@ -48,7 +50,9 @@ recordAs op f =
     (cond (eqb op 6) (Left (f .d) (f .a))
     (cond (eqb op 7) (Copy (f .d) (f .a) (f .b) (f .word))
     (cond (eqb op 8) (Fill (f .d) (f .a) (f .byte) (f .word))
-    (cond (eqb op 9) (Lock (f .a)) (Unlock (f .a))))))))))
+    (cond (eqb op 9) (Lock (f .a))
+    (cond (eqb op 10) (Unlock (f .a))
+    (cond (eqb op 11) (Again (f .d) (f .index)) (Set (f .d) (f .word))))))))))))
 
 abbrev pub recordFromFlat : FlatRecord → Record
 recordFromFlat f = recordAs (f .operation) f
@@ -62,4 +66,4 @@ abbrev pub unknown : List ℕ → WriteOutcome
 unknown out = record { number = 5; count = 0; slice = out }
 
 unfoldable pub writeFlat : FlatRecord → List ℕ → WriteOutcome
-writeFlat f out = cond (isOperation (f .operation)) (writeRecord (recordFromFlat f) out) (unknown out)
+writeFlat f out = cond (known (f .operation)) (writeRecord (recordFromFlat f) out) (unknown out)

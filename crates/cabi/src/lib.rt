@@ -2,7 +2,6 @@
 // and length. What C sees of it stands in include/tulivombe.h.
 use blocks::BASE;
 use heap::Answer;
-use heap::operations;
 use heap::registers::Registers;
 use runner::Ran;
 use takes::Reading;
@@ -16,6 +15,7 @@ ghost use Rattle.heap.specs.Registers.{putTo, putIn};
 ghost use Rattle.heap.specs.declared.Call.the-variants.{Get, Give, Step, Read, Write, Left, Copy, Fill, SetLock};
 ghost use Rattle.history.specs.Replaying.{replayed, replayOf};
 ghost use Rattle.runner.specs.TakeRuns.{screenful, runOf, panelOf, ranTo};
+ghost use Rattle.runner.specs.Budgets.{Counted};
 ghost use Rattle.takes.specs.Files.{recordsOf};
 ghost use Rattle.takes.specs.Reading.{readAt};
 ghost use Rattle.takes.specs.Writing.{writeHead};
@@ -38,6 +38,7 @@ pub struct FlatRecord {
     pub a: u8,
     pub b: u8,
     pub byte: u8,
+    pub index: u16,
     pub word: u32,
 }
 
@@ -160,11 +161,14 @@ pub extern "C" fn tulivombe_run(
     arena: &mut [u8],
     table: &mut [u8],
     answers: &mut [u8],
+    budget: u32,
 ) -> Ran
     ensures { λ r. ⌜ ranTo r (now (arena .exit)) (now (table .exit)) (now (answers .exit))
-        ≡ runOf (now (file .entry)) (heapOf (now (arena .entry)) (now (table .entry))) (now (answers .entry)) ⌝ }
+        ≡ runOf (now (file .entry)) budget (heapOf (now (arena .entry)) (now (table .entry))) (now (answers .entry)) ⌝ }
+    ensures { λ r. ⌜ (r .number ≡ 0
+        → Counted (now (file .entry)) budget (now (answers .entry)) (ranTo r (now (arena .exit)) (now (table .exit)) (now (answers .exit)))) ⌝ }
 {
-    runner::run(file, arena, table, answers)
+    runner::run(file, arena, table, answers, budget)
 }
 
 #[no_mangle]
@@ -173,17 +177,20 @@ pub extern "C" fn tulivombe_run_panel(
     arena: &mut [u8],
     table: &mut [u8],
     answers: &mut [u8],
+    budget: u32,
 ) -> Ran
     ensures { λ r. ⌜ ranTo r (now (arena .exit)) (now (table .exit)) (now (answers .exit))
-        ≡ panelOf (now (file .entry)) (heapOf (now (arena .entry)) (now (table .entry))) (now (answers .entry)) ⌝ }
+        ≡ panelOf (now (file .entry)) budget (heapOf (now (arena .entry)) (now (table .entry))) (now (answers .entry)) ⌝ }
     ensures { λ r. ⌜ (r .number ≡ 0
         → ranTo r (now (arena .exit)) (now (table .exit)) (now (answers .exit))
-        ≡ runOf (now (file .entry)) (heapOf (now (arena .entry)) (now (table .entry))) (now (answers .entry))) ⌝ }
+        ≡ runOf (now (file .entry)) budget (heapOf (now (arena .entry)) (now (table .entry))) (now (answers .entry))) ⌝ }
     ensures { λ r. ⌜ (length (recordsOf (now (file .entry))) ≤ screenful
         → ranTo r (now (arena .exit)) (now (table .exit)) (now (answers .exit))
-        ≡ runOf (now (file .entry)) (heapOf (now (arena .entry)) (now (table .entry))) (now (answers .entry))) ⌝ }
+        ≡ runOf (now (file .entry)) budget (heapOf (now (arena .entry)) (now (table .entry))) (now (answers .entry))) ⌝ }
+    ensures { λ r. ⌜ (r .number ≡ 0
+        → Counted (now (file .entry)) budget (now (answers .entry)) (ranTo r (now (arena .exit)) (now (table .exit)) (now (answers .exit)))) ⌝ }
 {
-    runner::run_panel(file, arena, table, answers)
+    runner::run_panel(file, arena, table, answers, budget)
 }
 
 // The one exported function that is lent a struct.
@@ -208,8 +215,8 @@ pub extern "C" fn tulivombe_replay(
 }
 
 // A flat record of these fields, in the struct's order.
-fn flat_record(operation: u8, d: u8, a: u8, b: u8, byte: u8, word: u32) -> FlatRecord
-    ensures { λ f. ⌜ f ≡ flatOf operation d a b byte word ⌝ }
+fn flat_record(operation: u8, d: u8, a: u8, b: u8, byte: u8, index: u16, word: u32) -> FlatRecord
+    ensures { λ f. ⌜ f ≡ flatOf operation d a b byte index word ⌝ }
 {
     FlatRecord {
         operation,
@@ -217,6 +224,7 @@ fn flat_record(operation: u8, d: u8, a: u8, b: u8, byte: u8, word: u32) -> FlatR
         a,
         b,
         byte,
+        index,
         word,
     }
 }
@@ -225,16 +233,18 @@ fn flattened(r: Record) -> FlatRecord
     ensures { λ f. ⌜ f ≡ flat r ⌝ }
 {
     match r {
-        Record::Get(d, n) => flat_record(1, d, 0, 0, 0, n),
-        Record::Give(a) => flat_record(2, 0, a, 0, 0, 0),
-        Record::Step(d, a, i) => flat_record(3, d, a, 0, 0, i),
-        Record::Read(d, a, w) => flat_record(4, d, a, 0, w, 0),
-        Record::Write(a, w, v) => flat_record(5, 0, a, 0, w, v),
-        Record::Left(d, a) => flat_record(6, d, a, 0, 0, 0),
-        Record::Copy(d, a, b, n) => flat_record(7, d, a, b, 0, n),
-        Record::Fill(d, a, v, n) => flat_record(8, d, a, 0, v, n),
-        Record::Lock(a) => flat_record(9, 0, a, 0, 0, 0),
-        Record::Unlock(a) => flat_record(10, 0, a, 0, 0, 0),
+        Record::Get(d, n) => flat_record(1, d, 0, 0, 0, 0, n),
+        Record::Give(a) => flat_record(2, 0, a, 0, 0, 0, 0),
+        Record::Step(d, a, i) => flat_record(3, d, a, 0, 0, 0, i),
+        Record::Read(d, a, w) => flat_record(4, d, a, 0, w, 0, 0),
+        Record::Write(a, w, v) => flat_record(5, 0, a, 0, w, 0, v),
+        Record::Left(d, a) => flat_record(6, d, a, 0, 0, 0, 0),
+        Record::Copy(d, a, b, n) => flat_record(7, d, a, b, 0, 0, n),
+        Record::Fill(d, a, v, n) => flat_record(8, d, a, 0, v, 0, n),
+        Record::Lock(a) => flat_record(9, 0, a, 0, 0, 0, 0),
+        Record::Unlock(a) => flat_record(10, 0, a, 0, 0, 0, 0),
+        Record::Again(d, k) => flat_record(11, d, 0, 0, 0, k, 0),
+        Record::Set(d, n) => flat_record(12, d, 0, 0, 0, 0, n),
     }
 }
 
@@ -251,7 +261,7 @@ pub extern "C" fn tulivombe_read_record(file: &[u8], at: usize) -> FlatReading
         },
         Reading::Refused(number) => FlatReading {
             number,
-            item: flat_record(0, 0, 0, 0, 0, 0),
+            item: flat_record(0, 0, 0, 0, 0, 0, 0),
             next: 0,
         },
     }
@@ -268,7 +278,7 @@ pub extern "C" fn tulivombe_write_head(out: &mut [u8], m: u32) -> Answer
     }
 }
 
-// The record of an operation of the table, an unlock for any other number.
+// The record of an operation of the table, a set for any other number.
 fn structured(f: FlatRecord) -> Record
     ensures { λ r. ⌜ r ≡ recordFromFlat f ⌝ }
 {
@@ -283,7 +293,9 @@ fn structured(f: FlatRecord) -> Record
         7 => Record::Copy(f.d, f.a, f.b, f.word),
         8 => Record::Fill(f.d, f.a, f.byte, f.word),
         9 => Record::Lock(f.a),
-        _ => Record::Unlock(f.a),
+        10 => Record::Unlock(f.a),
+        11 => Record::Again(f.d, f.index),
+        _ => Record::Set(f.d, f.word),
     }
 }
 
@@ -299,7 +311,7 @@ pub extern "C" fn tulivombe_write_record(out: &mut [u8], item: FlatRecord) -> An
             value: 0,
         };
     }
-    if operations::LAST < operation {
+    if takes::LAST_OPERATION < operation {
         return Answer {
             number: 5,
             value: 0,

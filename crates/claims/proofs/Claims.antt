@@ -9,7 +9,10 @@ use Rattle.history.proofs.MissingKinds.{ledger-tells}
 use Rattle.history.proofs.DeadAndMarked.{ledger-tells-marks}
 use Rattle.history.proofs.Noninterference.{noninterference}
 use Rattle.takes.proofs.RoundTrips.{round-trips}
+use Rattle.takes.proofs.JudgedBefore.{neither-judged-as-before}
 use Rattle.runner.proofs.Panel.{panel-as-upload}
+use Rattle.runner.proofs.Budgets.{accepted-counted, larger-keeps}
+use Rattle.runner.proofs.AsBefore.{neither-as-before}
 use Rattle.claims.specs.Claims.{Claims}
 
 pub claims : Claims
@@ -30,4 +33,8 @@ claims =
       marked-check = check-tells-marks;
       marked-show = address-tells-marks;
       marked-ledger = ledger-tells-marks;
+      counted = accepted-counted;
+      larger-budget = larger-keeps;
+      judged-as-before = neither-judged-as-before;
+      runs-as-before = neither-as-before;
     }

@@ -19,7 +19,10 @@ use Rattle.history.specs.CallLists.{ledgerRun}
 use Rattle.history.specs.Demand3.{Demand3}
 use Rattle.history.specs.Noninterference.{Noninterference}
 use Rattle.takes.specs.RoundTrips.{RoundTrips}
+use Rattle.takes.specs.JudgedBefore.{NeitherJudgedAsBefore}
 use Rattle.runner.specs.Panel.{PanelAsUpload}
+use Rattle.runner.specs.Budgets.{AcceptedCounted, LargerKeeps}
+use Rattle.runner.specs.AsBefore.{NeitherAsBefore}
 
 pub record Claims : Type 0 where
   -- demand 2: every set of blocks has one table, and every undamaged table reads back as that set
@@ -31,7 +34,7 @@ pub record Claims : Type 0 where
   -- the twelve edges
   pub edges : Edges
   -- request 1: what the panel's run and the upload's have in common
-  pub panel : (file : List ℕ) (h : Heap) (out : List ℕ) → PanelAsUpload file h out
+  pub panel : (file : List ℕ) (b : ℕ) (h : Heap) (out : List ℕ) → PanelAsUpload file b h out
   -- request 5: what a hidden block does not tell
   pub noninterference : Noninterference
   -- request 6: what 27 and 22 tell, of a call, of check, of show, and of the ledger after any list
@@ -48,3 +51,9 @@ pub record Claims : Type 0 where
   pub marked-show : (p : ℕ) (h : Heap) → TellsMarks (viewOf h) (p ∷ []) (pointerNumber h p)
   pub marked-ledger : (m : ℕ) → smallestArena ≤ m → m ≤ largestArena → (cs : List Call) (c : Call)
       → let l = ledgerRun m cs .last in TellsMarks (ledgerView slotOrder m l) (plainPointers c) (ledgerStep slotOrder m c l .answer .number)
+  -- request 9: the count of a run is the number of its steps, a larger budget alters no earlier answer, and a take with neither new operation is judged and
+  -- runs as before
+  pub counted : AcceptedCounted
+  pub larger-budget : LargerKeeps
+  pub judged-as-before : NeitherJudgedAsBefore
+  pub runs-as-before : NeitherAsBefore

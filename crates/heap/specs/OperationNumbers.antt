@@ -1,4 +1,4 @@
--- How many calls lists in bytes can name: the operations are 1 to 10, the same in the records of a take and in the calls of a replay.
+-- The numbers by which lists in bytes name the ten calls: 1 to `lastOperation`, the same in the records of a take and in the calls of a replay.
 use Prim.Native.Nat.{ℕ}
 use mathlib.Core.Bool.{Bool, _&&_}
 use lib.Dec.{leb}

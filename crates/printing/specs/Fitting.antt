@@ -8,9 +8,9 @@ use Rattle.takes.specs.Files.{sizeByte, fileNumber}
 use Rattle.heap.specs.Views.{slotOrder}
 use Rattle.heap.specs.Heaps.{heapOf, wrongSizes}
 use Rattle.heap.specs.Answers.{answerLength}
-use Rattle.runner.specs.TakeRuns.{mostRecords}
+use Rattle.runner.specs.TakeRuns.{mostSteps}
 
--- an arena and a table of the file's size, where it is accepted, and room for the answers of any
+-- an arena and a table of the file's size, where it is accepted, and room for the answers of the largest budget
 pub record Fitting (file a tab out : List ℕ) : Type 0 where
   pub sizes : fileNumber file ≡ 0 → wrongSizes slotOrder (sizeByte file) (heapOf a tab) ≡ false
-  pub answers : answerLength * mostRecords ≤ length out
+  pub answers : answerLength * mostSteps ≤ length out

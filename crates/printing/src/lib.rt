@@ -4,6 +4,7 @@ use common::wide;
 use heap::SLOT_ORDER;
 use heap::answers::ANSWER_LENGTH;
 use libc::STDOUT_FILENO;
+use runner::MOST_STEPS;
 use runner::Ran;
 use takes::HEAD;
 use takes::LONGEST;
@@ -14,7 +15,7 @@ ghost use Rattle.blocks.specs.Orders.{largestArena};
 ghost use Rattle.takes.specs.Files.{sizeByte, fileNumber};
 ghost use Rattle.heap.specs.Heaps.{heapOf};
 ghost use Rattle.heap.specs.Answers.{answerLength};
-ghost use Rattle.runner.specs.TakeRuns.{runOf, ranTo};
+ghost use Rattle.runner.specs.TakeRuns.{mostSteps, runOf, ranTo};
 ghost use Rattle.printing.specs.Fitting.{Fitting};
 
 fn print(text: &[u8]) {
@@ -33,7 +34,7 @@ fn print_pair(word: &[u8], n: u64) {
     print(b"\n");
 }
 
-// A record's line: its index, number and value. Its answer is in the five bytes from `at` on.
+// A record's line: how many were carried out before it, its number and its value. Its answer is in the five bytes from `at` on.
 fn print_answer(index: u32, answers: &[u8], at: usize)
     requires { ⌜ at + answerLength ≤ length (now answers) ⌝ }
 {
@@ -57,6 +58,15 @@ fn print_answers(answers: &[u8], count: u32)
     }
 }
 
+// The last line: how many records were carried out, and whether one was still due.
+fn print_last(stopped: bool, count: u32) {
+    if stopped {
+        print_pair(b"stopped", count as u64);
+    } else {
+        print_pair(b"end", count as u64);
+    }
+}
+
 // The arena's length by the file's size byte. A file that has no such byte is refused, whatever the length.
 fn size_for(file: &[u8]) -> usize
     ensures { λ r. ⌜ r ≤ 2 ^ largestArena ⌝ }
@@ -72,18 +82,18 @@ fn size_for(file: &[u8]) -> usize
     blocks::size_of(m) as usize
 }
 
-// The run of an upload, on memory that fits its file: so it is refused by the file alone, 1 to 7, never by a length, 8 or 9.
+// The run of an upload with the largest budget, on memory that fits its file: so it is refused by the file alone, 1 to 7 or 29, never by a length, 8 or 9.
 fn run_in(file: &[u8], arena: &mut [u8], table: &mut [u8], answers: &mut [u8]) -> Ran
     requires { ⌜ Fitting (now file) (now arena) (now table) (now answers) ⌝ }
     ensures { λ r. ⌜ ranTo r (now (arena .exit)) (now (table .exit)) (now (answers .exit))
-        ≡ runOf (now (file .entry)) (heapOf (now (arena .entry)) (now (table .entry))) (now (answers .entry)) ⌝ }
+        ≡ runOf (now (file .entry)) mostSteps (heapOf (now (arena .entry)) (now (table .entry))) (now (answers .entry)) ⌝ }
     ensures { λ r. ⌜ r .number ≡ fileNumber (now (file .entry)) ⌝ }
 {
-    runner::run(file, arena, table, answers)
+    runner::run(file, arena, table, answers, MOST_STEPS)
 }
 
-// Five bytes for each of 4,095 records: no file has more.
-const ANSWERS: usize = 20475;
+// Five bytes for each record that a run carries out at most.
+const ANSWERS: usize = ANSWER_LENGTH * MOST_STEPS as usize;
 
 // Runs a take and prints its lines.
 pub fn play(file: &[u8]) {
@@ -101,7 +111,7 @@ pub fn play(file: &[u8]) {
     let count = ran.count;
     print_pair(b"heap", size as u64);
     print_answers(&answers, count);
-    print_pair(b"end", count as u64);
+    print_last(ran.stopped, count);
 }
 
 // One byte more than the longest file is enough to refuse it.

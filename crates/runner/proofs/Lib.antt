@@ -1,8 +1,11 @@
 pub mod Files
 pub mod Records
+pub mod Steps
 pub mod Running
 pub mod RunRefusals
 pub mod Panel
+pub mod Budgets
+pub mod AsBefore
 pub mod Computing
 pub mod Examples
 pub mod Vectors

@@ -15,10 +15,11 @@ use Rattle.heap.specs.Views.{slotOrder}
 use Rattle.heap.specs.Heaps.{Heap, heapOf, wrongSizes}
 use Rattle.heap.specs.Answers.{answerLength}
 use Rattle.heap.specs.Registers.{registersAtFirst}
-use Rattle.runner.specs.TakeRuns.{RunOutcome, screenful, crowded, runRules, runSettled, runBy, runOf, mostRecords, ranTo}
-use Rattle.runner.specs.Inner.{State, stateOf, atFirst, allRecords, Runnable}
+use Rattle.runner.specs.Machines.{machineAtFirst}
+use Rattle.runner.specs.TakeRuns.{mostSteps, allowed, screenful, crowded, runRules, RunOutcome, ranTo, ranOut, runSettled, runBy, runOf}
+use Rattle.runner.specs.Inner.{Runnable}
 use Rattle.runner.specs.declared.Ran.{Ran}
-use Rattle.runner.proofs.Files.{few-records}
+use Rattle.runner.proofs.Steps.{allowed-most, steps-within}
 
 -- the judgement of a file, b telling whether it is accepted
 abbrev judgedAs : List ℕ → Bool → Judgement
@@ -66,16 +67,16 @@ module _ (panel : Bool) (file : List ℕ) where
   no-screen p = rw p
 
 -- of a run by either caller on what is lent
-module _ (panel : Bool) (file a tab out : List ℕ) where
+module _ (panel : Bool) (file : List ℕ) (b : ℕ) (a tab out : List ℕ) where
   -- the first refusal that applies
   abbrev number : ℕ
-  number = first (runRules panel file (heapOf a tab) out)
+  number = first (runRules panel file b (heapOf a tab) out)
 
   -- what is returned with the number k, nothing changed, is the run's outcome
   abbrev RefusedBy : ℕ → Type 0
   RefusedBy k =
-      (r : Ran) → r ≡ record { number = k; registers = record { values = registersAtFirst }; count = 0 }
-      → ranTo r a tab out ≡ runBy panel file (heapOf a tab) out
+      (r : Ran) → r ≡ record { number = k; registers = record { values = registersAtFirst }; count = 0; stopped = false }
+      → ranTo r a tab out ≡ runBy panel file b (heapOf a tab) out
 
   refused-by : (k : ℕ) → (k ≡ 0 → ⊥) → number ≡ k → RefusedBy k
   unfolding runBy
@@ -86,63 +87,72 @@ module _ (panel : Bool) (file a tab out : List ℕ) where
   by-file k d e = refused-by k d (rw (ne-eqb (fileNumber file) 0 (λ z. d (sym e ∙ z)), e))
 
   pub by-screen : fileNumber file ≡ 0 → (panel && crowded file) ≡ true → RefusedBy 26
-  by-screen z b = refused-by 26 (λ z. omega arith) (rw (z, b))
+  by-screen z s = refused-by 26 (λ z. omega arith) (rw (z, s))
 
-  module _ (z : fileNumber file ≡ 0) (b : (panel && crowded file) ≡ false) where
+  module _ (z : fileNumber file ≡ 0) (s : (panel && crowded file) ≡ false) where
     pub by-sizes : wrongSizes slotOrder (sizeByte file) (heapOf a tab) ≡ true → RefusedBy 8
-    by-sizes w = refused-by 8 (λ z. omega arith) (rw (z, b, w))
+    by-sizes w = refused-by 8 (λ z. omega arith) (rw (z, s, w))
 
     module _ (w : wrongSizes slotOrder (sizeByte file) (heapOf a tab) ≡ false) where
-      fits : (x : Bool) → ltb (length out) (answerLength * length (recordsOf file)) ≡ x → number ≡ cond x 9 0
-      fits x l = rw (z, b, w, l)
+      fits : (x : Bool) → ltb (length out) (answerLength * allowed b) ≡ x → number ≡ cond x 9 0
+      fits x l = rw (z, s, w, l)
 
-      pub by-room : length out < answerLength * length (recordsOf file) → RefusedBy 9
-      by-room l = refused-by 9 (λ z. omega arith) (fits true (lt-ltb (length out) (answerLength * length (recordsOf file)) l))
+      pub by-room : length out < answerLength * allowed b → RefusedBy 9
+      by-room l = refused-by 9 (λ z. omega arith) (fits true (lt-ltb (length out) (answerLength * allowed b) l))
 
-      by-none : answerLength * length (recordsOf file) ≤ length out → number ≡ 0
-      by-none l = fits false (le-ltb (length out) (answerLength * length (recordsOf file)) l)
+      by-none : answerLength * allowed b ≤ length out → number ≡ 0
+      by-none l = fits false (le-ltb (length out) (answerLength * allowed b) l)
 
-  pub run-done : (m : ℕ) → Runnable m file a tab out → (panel && crowded file) ≡ false → (r : Ran) (a′ tab′ out′ : List ℕ) → r .number ≡ 0
-      → r .count ≡ length (recordsOf file) → stateOf a′ tab′ (r .registers .values) out′ ≡ allRecords (recordsOf file) 0 (atFirst m out)
-      → ranTo r a′ tab′ out′ ≡ runBy panel file (heapOf a tab) out
+  pub run-done : (m most : ℕ) → most ≡ allowed b → Runnable m most file a tab out → (panel && crowded file) ≡ false → (r : Ran) (a′ tab′ out′ : List ℕ)
+      → ranTo r a′ tab′ out′ ≡ ranOut file most out → ranTo r a′ tab′ out′ ≡ runBy panel file b (heapOf a tab) out
   unfolding runBy
-  run-done m g b r a′ tab′ out′ n k e =
-      rw (by-none (g .judged) b (rw (g .same) (g .fits)) (g .room), n, k, g .same)
-      (ap (λ (s : State). record { number = 0; registers = s .registers; count = length (recordsOf file); heap = s .heap; answers = s .answers }) e)
+  run-done m most q g s r a′ tab′ out′ e = rw (by-none (g .judged) s (rw (g .same) (g .fits)) (rw (← q) (g .room)), ← q) e
+
+pub settled-number : (k : ℕ) (file : List ℕ) (b : ℕ) (h : Heap) (out : List ℕ) → runSettled k file b h out .number ≡ k
+settled-number zero file b h out = refl
+settled-number (suc k) file b h out = refl
+
+-- of a run that was accepted no rule applies, and there was room for the answers that the budget allows
+module _ (panel : Bool) (file : List ℕ) (b : ℕ) (h : Heap) (out : List ℕ) (z : runBy panel file b h out .number ≡ 0) where
+  none-applies : first (runRules panel file b h out) ≡ 0
+  unfolding runBy
+  none-applies = sym (settled-number (first (runRules panel file b h out)) file b h out) ∙ z
+
+  pub accepted-run : runBy panel file b h out ≡ ranOut file (allowed b) out
+  unfolding runBy
+  accepted-run = rw none-applies
+
+  pub accepted-room : answerLength * allowed b ≤ length out
+  accepted-room =
+      let short : Bool = ltb (length out) (answerLength * allowed b) in
+      let wrong : Bool = wrongSizes slotOrder (sizeByte file) h in
+      let two = clear-number (fileNumber file) (cond (panel && crowded file) 26 (cond wrong 8 (cond short 9 0))) none-applies in
+      let three = clear-one 26 (panel && crowded file) (cond wrong 8 (cond short 9 0)) (λ z. omega arith) (two .1) in
+      let four = clear-one 8 wrong (cond short 9 0) (λ z. omega arith) (three .1) in
+      let five = clear-one 9 short 0 (λ z. omega arith) (four .1) in
+      ltb-false (length out) (answerLength * allowed b) (five .0)
 
 -- an accepted upload had room for its answers
-pub ran-room : (file out : List ℕ) (h : Heap) (r : Ran) (a tab out′ : List ℕ) → ranTo r a tab out′ ≡ runOf file h out → r .number ≡ 0
+pub ran-room : (file : List ℕ) (b : ℕ) (out : List ℕ) (h : Heap) (r : Ran) (a tab out′ : List ℕ) → ranTo r a tab out′ ≡ runOf file b h out → r .number ≡ 0
     → answerLength * r .count ≤ length out
-unfolding runBy
-ran-room file out h r a tab out′ e z = go (first (runRules false file h out)) refl e
-  where
-    go : (k : ℕ) → first (runRules false file h out) ≡ k → ranTo r a tab out′ ≡ runSettled k file h out → answerLength * r .count ≤ length out
-    go zero k e =
-        let short : Bool = ltb (length out) (answerLength * length (recordsOf file)) in
-        let wrong : Bool = wrongSizes slotOrder (sizeByte file) h in
-        let two = clear-number (fileNumber file) (cond wrong 8 (cond short 9 0)) k in
-        let three = clear-one 8 wrong (cond short 9 0) (λ z. omega arith) (two .1) in
-        let four = clear-one 9 short 0 (λ z. omega arith) (three .1) in
-        omega (arith, ltb-false (length out) (answerLength * length (recordsOf file)) (four .0), ap (λ (o : RunOutcome). o .count) e)
-    go (suc k) q e = absurd (omega (arith, ap (λ (o : RunOutcome). o .number) e))
+ran-room file b out h r a tab out′ e z =
+    let n : runOf file b h out .number ≡ 0 = sym (ap (λ (o : RunOutcome). o .number) e) ∙ z in
+    let k : r .count ≡ ranOut file (allowed b) out .count = ap (λ (o : RunOutcome). o .count) (e ∙ accepted-run false file b h out n) in
+    omega (arith, accepted-room false file b h out n, steps-within (recordsOf file) (allowed b) (machineAtFirst (sizeByte file)))
 
-pub settled-number : (k : ℕ) (file : List ℕ) (h : Heap) (out : List ℕ) → runSettled k file h out .number ≡ k
-settled-number zero file h out = refl
-settled-number (suc k) file h out = refl
-
--- an upload on memory that fits its file is refused by the file alone
-module _ (file a tab out : List ℕ) (p : fileNumber file ≡ 0 → wrongSizes slotOrder (sizeByte file) (heapOf a tab) ≡ false)
-    (l : answerLength * mostRecords ≤ length out) where
-  first-is : number false file a tab out ≡ fileNumber file
+-- an upload on memory that fits its file is refused by the file alone, whatever its budget
+module _ (file : List ℕ) (b : ℕ) (a tab out : List ℕ) (p : fileNumber file ≡ 0 → wrongSizes slotOrder (sizeByte file) (heapOf a tab) ≡ false)
+    (l : answerLength * mostSteps ≤ length out) where
+  first-is : number false file b a tab out ≡ fileNumber file
   first-is = go (eqb (fileNumber file) 0) refl
     where
-      go : (b : Bool) → eqb (fileNumber file) 0 ≡ b → number false file a tab out ≡ fileNumber file
+      go : (t : Bool) → eqb (fileNumber file) 0 ≡ t → number false file b a tab out ≡ fileNumber file
       go true e =
           let z : fileNumber file ≡ 0 = eqb-true (fileNumber file) 0 e in
-          by-none false file a tab out z refl (p z) (omega (arith, few-records file z)) ∙ sym z
+          by-none false file b a tab out z refl (p z) (omega (arith, allowed-most b)) ∙ sym z
       go false e = rw e
 
-  pub ran-number : (r : Ran) (a′ tab′ out′ : List ℕ) → ranTo r a′ tab′ out′ ≡ runOf file (heapOf a tab) out → r .number ≡ fileNumber file
+  pub ran-number : (r : Ran) (a′ tab′ out′ : List ℕ) → ranTo r a′ tab′ out′ ≡ runOf file b (heapOf a tab) out → r .number ≡ fileNumber file
   unfolding runBy
   ran-number r a′ tab′ out′ e =
-      ap (λ (o : RunOutcome). o .number) e ∙ (settled-number (number false file a tab out) file (heapOf a tab) out ∙ first-is)
+      ap (λ (o : RunOutcome). o .number) e ∙ (settled-number (number false file b a tab out) file b (heapOf a tab) out ∙ first-is)

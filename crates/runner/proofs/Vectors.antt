@@ -4,6 +4,7 @@ use mathlib.Core.Path.{_≡_, refl}
 use mathlib.Core.List.{List, [], _∷_}
 use Rattle.heap.specs.declared.Answer.{Answer}
 use Rattle.takes.specs.Files.{fileNumber}
+use Rattle.takes.specs.JudgedBefore.{walkBefore, numberBefore}
 use Rattle.runner.proofs.Computing.{carried}
 
 -- the answers as the lines that takerun prints: number and value
@@ -99,7 +100,7 @@ prints-046 : printed take-046 ≡ (
 unfolding printed take-046
 prints-046 = refl
 
--- a file whose record 22 has no known operation
+-- a file whose record 22, an again, has a wrong length
 take-035 : List ℕ
 take-035 =
     1 ∷ 10 ∷ 6 ∷ 1 ∷ 0 ∷ 0 ∷ 0 ∷ 0 ∷ 128 ∷ 6 ∷ 1 ∷ 5 ∷ 0 ∷ 0 ∷ 0 ∷ 16 ∷ 3 ∷ 6 ∷ 1 ∷ 3 ∷ 8 ∷ 7 ∷ 1 ∷ 3 ∷ 0 ∷ 0 ∷ 0 ∷ 0 ∷ 16 ∷ 8 ∷ 8 ∷ 4 ∷ 2 ∷ 80 ∷ 0
@@ -119,6 +120,7 @@ take-035 =
     ∷ 0 ∷ 0 ∷ 3 ∷ 7 ∷ 5 ∷ 2 ∷ 4 ∷ 0 ∷ 1 ∷ 0 ∷ 0 ∷ 6 ∷ 1 ∷ 5 ∷ 0 ∷ 0 ∷ 0 ∷ 15 ∷ 8 ∷ 7 ∷ 3 ∷ 0 ∷ 5 ∷ 0 ∷ 0 ∷ 0 ∷ 15 ∷ 2 ∷ 2 ∷ 4 ∷ 8 ∷ 8 ∷ 2 ∷ 3 ∷ 13 ∷ 0
     ∷ 0 ∷ 0 ∷ 1 ∷ 2 ∷ 2 ∷ 5 ∷ 8 ∷ 7 ∷ 5 ∷ 4 ∷ 2 ∷ 0 ∷ 0 ∷ 0 ∷ 65 ∷ []
 
-refused-035 : fileNumber take-035 ≡ 5
-unfolding carried take-035
+-- it was refused for the again itself, before takes had one
+refused-035 : fileNumber take-035 ∷ numberBefore take-035 ∷ [] ≡ 6 ∷ 5 ∷ []
+unfolding carried take-035 numberBefore walkBefore
 refused-035 = refl

@@ -1,5 +1,5 @@
--- Document 01, "A take", with request 7 of document 02: a record decoded, and carried out with the sixteen registers.
-use Prim.Native.Nat.{ℕ}
+-- Document 01, "A take", with requests 7 and 9 of document 02: a record decoded: what it does with the sixteen registers, and which record is due after it.
+use Prim.Native.Nat.{ℕ, suc, _-_}
 use mathlib.Core.Bool.{true, false, cond}
 use mathlib.Core.List.{List}
 use mathlib.Core.Option.{Option, none, some}
@@ -7,34 +7,46 @@ use lib.Dec.{eqb}
 use Rattle.takes.specs.declared.Record.{Record}
 use Rattle.takes.specs.declared.Record.the-variants.{Get as get, Give as give, Step as step, Read as read}
 use Rattle.takes.specs.declared.Record.the-variants.{Write as write, Left as left, Copy as copy, Fill as fill, Lock as lock, Unlock as unlock}
+use Rattle.takes.specs.declared.Record.the-variants.{Again as again, Set as assign}
 use Rattle.heap.specs.declared.Answer.{Answer}
-use Rattle.heap.specs.declared.Call.{Call}
 use Rattle.heap.specs.declared.Call.the-variants.{Get, Give, Step, Read, Write, Left, Copy, Fill, SetLock}
 use Rattle.heap.specs.Registers.{held, putWhere}
+use Rattle.runner.specs.declared.decoding.Action.{Action}
+use Rattle.runner.specs.declared.decoding.Action.the-variants.{Makes, Gives, GoesBack}
 
--- What a record asks for: its registers a and b, 0 where it has none, its call with their values p and q, and the register d that its value goes to.
+-- What a record asks for: its registers a and b, 0 where it has none; what it does with their values p and q; and the register d that its value goes to. It
+-- makes a call, or gives a value without one, and with that it may go back to the record of an index.
 pub record Decoded : Type 0 where
   pub a : ℕ
   pub b : ℕ
-  pub call : ℕ → ℕ → Call
+  pub action : ℕ → ℕ → Action
   pub d : Option ℕ
 
 abbrev pub decoded : Record → Decoded
-decoded (get d n) = record { a = 0; b = 0; call = λ p q. Get n; d = some d }
-decoded (give a) = record { a = a; b = 0; call = λ p q. Give p; d = none }
-decoded (step d a i) = record { a = a; b = 0; call = λ p q. Step p i; d = some d }
-decoded (read d a w) = record { a = a; b = 0; call = λ p q. Read p w; d = some d }
-decoded (write a w v) = record { a = a; b = 0; call = λ p q. Write p w v; d = none }
-decoded (left d a) = record { a = a; b = 0; call = λ p q. Left p; d = some d }
-decoded (copy d a b n) = record { a = a; b = b; call = λ p q. Copy p q n; d = some d }
-decoded (fill d a v n) = record { a = a; b = 0; call = λ p q. Fill p v n; d = some d }
-decoded (lock a) = record { a = a; b = 0; call = λ p q. SetLock p true; d = none }
-decoded (unlock a) = record { a = a; b = 0; call = λ p q. SetLock p false; d = none }
+decoded (get d n) = record { a = 0; b = 0; action = λ p q. Makes (Get n); d = some d }
+decoded (give a) = record { a = a; b = 0; action = λ p q. Makes (Give p); d = none }
+decoded (step d a i) = record { a = a; b = 0; action = λ p q. Makes (Step p i); d = some d }
+decoded (read d a w) = record { a = a; b = 0; action = λ p q. Makes (Read p w); d = some d }
+decoded (write a w v) = record { a = a; b = 0; action = λ p q. Makes (Write p w v); d = none }
+decoded (left d a) = record { a = a; b = 0; action = λ p q. Makes (Left p); d = some d }
+decoded (copy d a b n) = record { a = a; b = b; action = λ p q. Makes (Copy p q n); d = some d }
+decoded (fill d a v n) = record { a = a; b = 0; action = λ p q. Makes (Fill p v n); d = some d }
+decoded (lock a) = record { a = a; b = 0; action = λ p q. Makes (SetLock p true); d = none }
+decoded (unlock a) = record { a = a; b = 0; action = λ p q. Makes (SetLock p false); d = none }
+-- unless d is 0, one is taken from it, and the record k is due
+decoded (again d k) = record { a = d; b = 0; action = λ p q. cond (eqb p 0) (Gives 0) (GoesBack (p - 1) k); d = some d }
+decoded (assign d n) = record { a = 0; b = 0; action = λ p q. Gives n; d = some d }
 
--- the call that a record makes: its pointers are the values in a and b
-abbrev pub callOf : List ℕ → Record → Call
-callOf rs r = decoded r .call (held rs (decoded r .a)) (held rs (decoded r .b))
+-- what a record does: p and q are the values in a and b
+abbrev pub actionOf : List ℕ → Record → Action
+actionOf rs r = decoded r .action (held rs (decoded r .a)) (held rs (decoded r .b))
 
--- the registers after a record: the value in d, if the call was not refused
+-- the registers after a record: the value in d, if it was not refused
 unfoldable pub registersAfter : Record → Answer → List ℕ → List ℕ
 registersAfter r x rs = cond (eqb (x .number) 0) (putWhere (decoded r .d) (x .value) rs) rs
+
+-- the record due after the record i, by what it did
+abbrev pub dueAfter : Action → ℕ → ℕ
+dueAfter (Makes c) i = suc i
+dueAfter (Gives v) i = suc i
+dueAfter (GoesBack v k) i = k

@@ -1,6 +1,6 @@
--- What the parts of a run's code say to each other: the state of a run, one record carried out on it, and many, and the registers that a record names.
+-- What the parts of a run's code say to each other: where a record stands, what a run gives from a machine on, and a record with its registers' values.
 -- Document 01 has none of it: `run` and `run_panel` promise `runOf` and `panelOf`.
-use Prim.Native.Nat.{ℕ, _*_, _≤_}
+use Prim.Native.Nat.{ℕ, _+_, _-_, _*_, _/_, _≤_, _<_}
 use mathlib.Core.Path.{_≡_}
 use mathlib.Core.Bool.{false, cond}
 use mathlib.Core.List.{List}
@@ -8,48 +8,58 @@ use mathlib.Core.Option.{Option, none, some}
 use lib.Dec.{eqb}
 use lib.ListN.{length}
 use Rattle.common.specs.Bytes.{over}
-use Rattle.takes.specs.Files.{sizeByte, fileNumber, recordsOf}
+use Rattle.takes.specs.Files.{headLength, longest, sizeByte, fileNumber}
 use Rattle.takes.specs.declared.Record.{Record}
 use Rattle.heap.specs.Views.{slotOrder}
-use Rattle.heap.specs.Heaps.{Heap, heapOf, wrongSizes, heapCall, freshHeap}
-use Rattle.heap.specs.Answers.{answerLength, answerBytes, answersBytes}
+use Rattle.heap.specs.Effects.{Outcome, accepted}
+use Rattle.heap.specs.Heaps.{Heap, heapOf, wrongSizes, heapStep}
+use Rattle.heap.specs.Answers.{answerLength, answersBytes}
 use Rattle.heap.specs.declared.Answer.{Answer}
-use Rattle.heap.specs.Registers.{registerCount, registersAtFirst}
-use Rattle.runner.specs.Decoding.{decoded, callOf, registersAfter}
-use Rattle.runner.specs.TakeRuns.{carryOut}
-use Rattle.runner.specs.declared.decoding.Operands.{Operands}
+use Rattle.heap.specs.Registers.{registerCount}
+use Rattle.runner.specs.Decoding.{decoded, actionOf}
+use Rattle.runner.specs.Machines.{Machine, isDue, carryOut}
+use Rattle.runner.specs.TakeRuns.{mostSteps, RunOutcome}
+use Rattle.runner.specs.declared.decoding.Issued.{Issued}
+use Rattle.runner.specs.declared.decoding.Action.{Action}
+use Rattle.runner.specs.declared.decoding.Action.the-variants.{Makes, Gives, GoesBack}
 
--- a heap, the registers and the answer slice
-pub record State : Type 0 where
-  pub heap : Heap
-  pub registers : List ℕ
-  pub answers : List ℕ
+-- no file has more records: each takes two bytes or more, its length byte and its operation
+abbrev pub mostRecords : ℕ
+mostRecords = (longest - headLength) / 2
 
-abbrev pub stateOf : List ℕ → List ℕ → List ℕ → List ℕ → State
-stateOf a tab rs out = record { heap = heapOf a tab; registers = rs; answers = out }
+-- room for the place of each of them, and for the end
+abbrev pub placeCount : ℕ
+placeCount = 4096
 
--- before the first record: the heap fresh, the registers 0
-abbrev pub atFirst : ℕ → List ℕ → State
-atFirst m out = record { heap = freshHeap m; registers = registersAtFirst; answers = out }
+abbrev pub machineOf : ℕ → List ℕ → List ℕ → List ℕ → Machine
+machineOf i a tab rs = record { due = i; heap = heapOf a tab; registers = rs }
 
--- a record, its answer going to `place`
-abbrev pub oneRecord : Record → ℕ → State → State
-oneRecord r place s =
-    let o = heapCall (callOf (s .registers) r) (s .heap) in
-    record { heap = o .state; registers = registersAfter r (o .answer) (s .registers); answers = over (s .answers) place (answerBytes (o .answer)) }
+-- what a run gives that has carried out `done` records and makes at most b more steps from the machine s on, out being the answer slice so far
+abbrev pub runFrom : List Record → ℕ → ℕ → Machine → List ℕ → RunOutcome
+runFrom rs b done s out =
+    let c = carryOut rs b s in
+    record {
+      number = 0;
+      registers = c .last .registers;
+      count = done + c .steps;
+      stopped = isDue rs (c .last);
+      heap = c .last .heap;
+      answers = over out (answerLength * done) (answersBytes (c .answers));
+    }
 
--- records, their answers going to `place` and the bytes after
-abbrev pub allRecords : List Record → ℕ → State → State
-allRecords rs place s =
-    let c = carryOut rs (s .heap) (s .registers) in
-    record { heap = c .heap; registers = c .registers; answers = over (s .answers) place (answersBytes (c .answers)) }
-
--- nothing refuses the run
-pub record Runnable (m : ℕ) (file a tab out : List ℕ) : Type 0 where
+-- nothing refuses the run of at most b steps
+pub record Runnable (m b : ℕ) (file a tab out : List ℕ) : Type 0 where
   pub judged : fileNumber file ≡ 0
   pub same : sizeByte file ≡ m
   pub fits : wrongSizes slotOrder m (heapOf a tab) ≡ false
-  pub room : answerLength * length (recordsOf file) ≤ length out
+  pub few : b ≤ mostSteps
+  pub room : answerLength * b ≤ length out
+
+-- what a record does to a sound heap of order m
+abbrev pub actedIn : ℕ → Action → Heap → Outcome Heap
+actedIn m (Makes c) h = heapStep slotOrder m c h
+actedIn m (Gives v) h = record { answer = accepted v; state = h }
+actedIn m (GoesBack v k) h = record { answer = accepted v; state = h }
 
 -- the index that stands for no register: the first past them
 abbrev pub noRegister : ℕ
@@ -59,9 +69,13 @@ abbrev pub indexOf : Option ℕ → ℕ
 indexOf none = noRegister
 indexOf (some d) = d
 
--- the registers of a record by their indices
-abbrev pub operandsOf : Record → Operands
-operandsOf r = record { a = decoded r .a; b = decoded r .b; d = indexOf (decoded r .d) }
+-- the registers that a record takes from are among the sixteen
+abbrev pub LowRegisters : Record → Type 0
+LowRegisters r = (decoded r .a < registerCount) × (decoded r .b < registerCount)
+
+-- a record with the values that its registers have, and the index of the register that its value goes to
+abbrev pub issuedWith : List ℕ → Record → Issued
+issuedWith rs r = record { action = actionOf rs r; d = indexOf (decoded r .d) }
 
 -- the register that its value goes to: none where it was refused
 abbrev pub storedIn : ℕ → Answer → ℕ

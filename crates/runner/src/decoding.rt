@@ -1,71 +1,100 @@
-// A record decoded: the registers that it takes from and puts to, and its call.
+// A record decoded: what it does with the values in its registers, the register that its value goes to, and the record due after it.
 use common::index;
 use heap::Answer;
 use heap::Call;
 use heap::registers::COUNT;
 use takes::Record;
 ghost use mathlib.Core.Path.{_≡_};
-ghost use Rattle.runner.specs.Decoding.{decoded};
-ghost use Rattle.runner.specs.Inner.{operandsOf, storedIn};
+ghost use mathlib.Core.Bool.{cond};
+ghost use lib.Dec.{eqb};
+ghost use Prim.Native.Nat.{_-_, _<_};
+ghost use Rattle.heap.specs.Registers.{registerCount, held};
+ghost use Rattle.runner.specs.Decoding.{dueAfter};
+ghost use Rattle.runner.specs.Inner.{mostRecords, LowRegisters, issuedWith, storedIn};
 
 // In place of a register's number, where there is none.
 const NO_REGISTER: u8 = COUNT as u8;
 
-// The registers of a record: a and b, whose values are its call's p and q, 0 where it has none, and d, which its value goes to.
-pub struct Operands {
-    pub a: u8,
-    pub b: u8,
+// What a record does: it makes a call, or gives a value without one, and with that may go back to the record of an index.
+pub enum Action {
+    Makes(Call),
+    Gives(u32),
+    GoesBack(u32, u16),
+}
+
+// A record with its operands: what it does with the values in its registers, and the register that its value goes to.
+pub struct Issued {
+    pub action: Action,
     pub d: u8,
 }
 
-pub fn operands_of(item: Record) -> Operands
-    ensures { λ r. ⌜ r ≡ operandsOf item ⌝ }
+// What again k does, p being the value in its register.
+fn again_with(p: u32, k: u16) -> Action
+    ensures { λ r. ⌜ r ≡ cond (eqb p 0) (Action.Gives 0) (Action.GoesBack (p - 1) k) ⌝ }
+{
+    if p == 0 {
+        return Action::Gives(0);
+    }
+    Action::GoesBack(p - 1, k)
+}
+
+// What a register holds.
+fn value_in(values: &[u32; COUNT], register: u8) -> u32
+    requires { ⌜ register < registerCount ⌝ }
+    ensures { λ v. ⌜ v ≡ held (now (values .entry)) register ⌝ }
+{
+    values[register as usize]
+}
+
+// A record that makes a call.
+fn makes(call: Call, d: u8) -> Issued
+    ensures { λ r. ⌜ r ≡ record { action = Action.Makes call; d = d } ⌝ }
+{
+    Issued {
+        action: Action::Makes(call),
+        d,
+    }
+}
+
+// One match tells the action and d: two measured slower.
+pub fn issue(item: Record, values: &[u32; COUNT]) -> Issued
+    requires { ⌜ LowRegisters item ⌝ }
+    ensures { λ r. ⌜ r ≡ issuedWith (now (values .entry)) item ⌝ }
 {
     match item {
-        Record::Get(d, _) => Operands { a: 0, b: 0, d },
-        Record::Give(a) => Operands {
-            a,
-            b: 0,
-            d: NO_REGISTER,
+        Record::Get(d, n) => makes(Call::Get(n), d),
+        Record::Give(a) => makes(Call::Give(value_in(values, a)), NO_REGISTER),
+        Record::Step(d, a, i) => makes(Call::Step(value_in(values, a), i), d),
+        Record::Read(d, a, w) => makes(Call::Read(value_in(values, a), w), d),
+        Record::Write(a, w, v) => makes(Call::Write(value_in(values, a), w, v), NO_REGISTER),
+        Record::Left(d, a) => makes(Call::Left(value_in(values, a)), d),
+        Record::Copy(d, a, b, n) => makes(
+            Call::Copy(value_in(values, a), value_in(values, b), n),
+            d,
+        ),
+        Record::Fill(d, a, v, n) => makes(Call::Fill(value_in(values, a), v, n), d),
+        Record::Lock(a) => makes(Call::SetLock(value_in(values, a), true), NO_REGISTER),
+        Record::Unlock(a) => makes(Call::SetLock(value_in(values, a), false), NO_REGISTER),
+        Record::Again(d, k) => Issued {
+            action: again_with(value_in(values, d), k),
+            d,
         },
-        Record::Step(d, a, _) => Operands { a, b: 0, d },
-        Record::Read(d, a, _) => Operands { a, b: 0, d },
-        Record::Write(a, _, _) => Operands {
-            a,
-            b: 0,
-            d: NO_REGISTER,
-        },
-        Record::Left(d, a) => Operands { a, b: 0, d },
-        Record::Copy(d, a, b, _) => Operands { a, b, d },
-        Record::Fill(d, a, _, _) => Operands { a, b: 0, d },
-        Record::Lock(a) => Operands {
-            a,
-            b: 0,
-            d: NO_REGISTER,
-        },
-        Record::Unlock(a) => Operands {
-            a,
-            b: 0,
-            d: NO_REGISTER,
+        Record::Set(d, n) => Issued {
+            action: Action::Gives(n),
+            d,
         },
     }
 }
 
-// The call that a record makes, p and q being the values in its registers a and b.
-pub fn call_with(item: Record, p: u32, q: u32) -> Call
-    ensures { λ c. ⌜ c ≡ decoded item .call p q ⌝ }
+// The record due after the record i, by what it does.
+pub fn due_after(action: Action, i: usize) -> usize
+    requires { ⌜ i < mostRecords ⌝ }
+    ensures { λ r. ⌜ r ≡ dueAfter action i ⌝ }
 {
-    match item {
-        Record::Get(_, n) => Call::Get(n),
-        Record::Give(_) => Call::Give(p),
-        Record::Step(_, _, i) => Call::Step(p, i),
-        Record::Read(_, _, w) => Call::Read(p, w),
-        Record::Write(_, w, v) => Call::Write(p, w, v),
-        Record::Left(_, _) => Call::Left(p),
-        Record::Copy(_, _, _, n) => Call::Copy(p, q, n),
-        Record::Fill(_, _, v, n) => Call::Fill(p, v, n),
-        Record::Lock(_) => Call::SetLock(p, true),
-        Record::Unlock(_) => Call::SetLock(p, false),
+    match action {
+        Action::Makes(_) => i + 1,
+        Action::Gives(_) => i + 1,
+        Action::GoesBack(_, k) => k as usize,
     }
 }
 

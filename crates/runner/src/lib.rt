@@ -1,4 +1,5 @@
-// Runs a take: its file is judged, the heap made fresh, and each record carried out with sixteen registers.
+// Runs a take: its file is judged, the heap made fresh, and the records that come due are carried out with sixteen registers.
+use decoding::Action;
 use heap::Answer;
 use heap::Call;
 use heap::SLOT_ORDER;
@@ -6,44 +7,78 @@ use heap::answers::ANSWER_LENGTH;
 use heap::registers;
 use heap::registers::Registers;
 ghost use mathlib.Core.Path.{_≡_};
+ghost use mathlib.Core.Bool.{false};
 ghost use Prim.Native.Nat.{_+_, _≤_};
 ghost use lib.ListN.{length};
 ghost use Rattle.common.specs.Bytes.{over};
 ghost use Rattle.heap.specs.Views.{slotOrder};
-ghost use Rattle.heap.specs.Heaps.{heapOf, heapStep, outcome};
+ghost use Rattle.heap.specs.Heaps.{heapOf, outcome, heapStep};
+ghost use Rattle.heap.specs.Effects.{accepted};
 ghost use Rattle.heap.specs.Answers.{answerLength, answerBytes};
 ghost use Rattle.heap.specs.Inner.{Sound};
 ghost use Rattle.takes.specs.Files.{recordsOf};
 ghost use Rattle.heap.specs.Registers.{registersAtFirst};
-ghost use Rattle.runner.specs.TakeRuns.{screenful, runBy, runOf, panelOf, ranTo};
-ghost use Rattle.runner.specs.Inner.{stateOf, atFirst, allRecords, Runnable};
+ghost use Rattle.runner.specs.TakeRuns.{allowed, screenful, ranOut, runBy, runOf, panelOf, ranTo};
+ghost use Rattle.runner.specs.Budgets.{Counted};
+ghost use Rattle.runner.specs.Inner.{actedIn, Runnable};
 
 mod decoding;
 
-// What a run returns: the number of its refusal, 0 for none, its registers, and the count of its records.
+// What a run returns: the number of its refusal, 0 for none, its registers, how many records it carried out, and whether it stopped with one still due.
 #[repr(C)]
 pub struct Ran {
     pub number: u32,
     pub registers: Registers,
     pub count: u32,
+    pub stopped: bool,
 }
+
+// The most records that a run carries out, whatever its budget.
+pub const MOST_STEPS: u32 = 4096;
 
 // How many records the front panel's screen can list.
 const SCREENFUL: usize = 64;
 
+// Room for the place of each record, and for the end: no file has more than 4,095.
+const PLACES: usize = 4096;
+
 // Sixteen zero registers and count 0.
 fn refused(number: u32) -> Ran
-    ensures { λ r. ⌜ r ≡ record { number = number; registers = record { values = registersAtFirst }; count = 0 } ⌝ }
+    ensures { λ r. ⌜ r ≡ record { number = number; registers = record { values = registersAtFirst }; count = 0; stopped = false } ⌝ }
 {
     Ran {
         number,
         registers: registers::at_first(),
         count: 0,
+        stopped: false,
     }
 }
 
-// One call, its answer stored from `place` on.
-fn carry_out_one(
+// A run that was not refused.
+fn ended(registers: Registers, count: u32, stopped: bool) -> Ran
+    ensures { λ r. ⌜ r ≡ record { number = 0; registers = registers; count = count; stopped = stopped } ⌝ }
+{
+    Ran {
+        number: 0,
+        registers,
+        count,
+        stopped,
+    }
+}
+
+// How many records a budget allows.
+fn allowed_by(budget: u32) -> u32
+    ensures { λ r. ⌜ r ≡ allowed budget ⌝ }
+{
+    if budget < MOST_STEPS {
+        budget
+    } else {
+        MOST_STEPS
+    }
+}
+
+// Makes a call, its answer stored from `place` on.
+fn make_call(
     arena: &mut [u8],
     table: &mut [u8],
     answers: &mut [u8],
@@ -61,50 +96,89 @@ fn carry_out_one(
     answer
 }
 
-// Makes the heap fresh and carries out the records of a file that was judged. They are read one at a time, and judged no more.
+// The answer of a record that makes no call, stored from `place` on.
+fn give_value(answers: &mut [u8], place: usize, value: u32) -> Answer
+    requires { ⌜ place + answerLength ≤ length (now answers) ⌝ }
+    ensures { λ r. ⌜ r ≡ accepted value ⌝ }
+    ensures { λ r. ⌜ now (answers .exit) ≡ over (now (answers .entry)) place (answerBytes r) ⌝ }
+{
+    let answer = heap::answers::accepted(value);
+    heap::answers::store(answers, place, answer);
+    answer
+}
+
+// What one record does to the heap, its answer stored from `place` on. Each arm stores its own: with one store behind the match, a value without a call
+// went through memory and waited there.
+fn carry_out_one(
+    arena: &mut [u8],
+    table: &mut [u8],
+    answers: &mut [u8],
+    place: usize,
+    m: u32,
+    action: Action,
+) -> Answer
+    requires { ⌜ Sound slotOrder m (now arena) (now table) ⌝ }
+    requires { ⌜ place + answerLength ≤ length (now answers) ⌝ }
+    ensures { λ r. ⌜ outcome r (now (arena .exit)) (now (table .exit)) ≡ actedIn m action (heapOf (now (arena .entry)) (now (table .entry))) ⌝ }
+    ensures { λ r. ⌜ now (answers .exit) ≡ over (now (answers .entry)) place (answerBytes r) ⌝ }
+{
+    match action {
+        Action::Makes(c) => make_call(arena, table, answers, place, m, c),
+        Action::Gives(v) => give_value(answers, place, v),
+        Action::GoesBack(v, _) => give_value(answers, place, v),
+    }
+}
+
+// Makes the heap fresh and carries out the records of a file that was judged, `count` of them, as they come due, `most` at most. They are read one at a time,
+// and judged no more. A record is gone back to by its place, which was found when it was first reached.
 fn carry_out(
     file: &[u8],
     arena: &mut [u8],
     table: &mut [u8],
     answers: &mut [u8],
     m: u32,
-) -> Registers
-    requires { ⌜ Runnable m (now file) (now arena) (now table) (now answers) ⌝ }
-    ensures { λ r. ⌜ stateOf (now (arena .exit)) (now (table .exit)) (r .values) (now (answers .exit))
-        ≡ allRecords (recordsOf (now (file .entry))) 0 (atFirst m (now (answers .entry))) ⌝ }
+    count: usize,
+    most: u32,
+) -> Ran
+    requires { ⌜ Runnable m most (now file) (now arena) (now table) (now answers) ⌝ }
+    requires { ⌜ length (recordsOf (now file)) ≡ count ⌝ }
+    ensures { λ r. ⌜ ranTo r (now (arena .exit)) (now (table .exit)) (now (answers .exit)) ≡ ranOut (now (file .entry)) most (now (answers .entry)) ⌝ }
 {
     heap::fresh(arena, table);
     let mut registers = registers::at_first();
-    let mut at = takes::HEAD;
-    let mut place = 0usize;
-    while at < file.len() {
+    let mut places = [0u16; PLACES];
+    places[0] = takes::HEAD as u16;
+    let mut due = 0usize;
+    let mut done = 0u32;
+    while done < most && due < count {
+        let at = places[due] as usize;
         let item = takes::unchecked::read(file, at);
-        let next = takes::unchecked::next(file, at);
-        let named = decoding::operands_of(item);
-        let p = registers.values[named.a as usize];
-        let q = registers.values[named.b as usize];
-        let answer = carry_out_one(
-            arena,
-            table,
-            answers,
-            place,
-            m,
-            decoding::call_with(item, p, q),
-        );
-        at = next;
-        place += ANSWER_LENGTH;
-        let d = decoding::stored_in(named.d, answer);
+        places[due + 1] = takes::unchecked::next(file, at) as u16;
+        let issued = decoding::issue(item, &registers.values);
+        let action = issued.action;
+        let place = ANSWER_LENGTH * done as usize;
+        let answer = carry_out_one(arena, table, answers, place, m, action);
+        due = decoding::due_after(action, due);
+        done += 1;
+        let d = decoding::stored_in(issued.d, answer);
         if d < registers::COUNT {
             registers.values[d] = answer.value;
         }
     }
-    registers
+    ended(registers, done, due < count)
 }
 
 // The run of both callers, an upload and the front panel. The file is judged whole before anything is changed.
-fn run_by(panel: bool, file: &[u8], arena: &mut [u8], table: &mut [u8], answers: &mut [u8]) -> Ran
+fn run_by(
+    panel: bool,
+    file: &[u8],
+    arena: &mut [u8],
+    table: &mut [u8],
+    answers: &mut [u8],
+    budget: u32,
+) -> Ran
     ensures { λ r. ⌜ ranTo r (now (arena .exit)) (now (table .exit)) (now (answers .exit))
-        ≡ runBy panel (now (file .entry)) (heapOf (now (arena .entry)) (now (table .entry))) (now (answers .entry)) ⌝ }
+        ≡ runBy panel (now (file .entry)) budget (heapOf (now (arena .entry)) (now (table .entry))) (now (answers .entry)) ⌝ }
 {
     let judgement = takes::judge(file);
     let number = judgement.number;
@@ -119,37 +193,43 @@ fn run_by(panel: bool, file: &[u8], arena: &mut [u8], table: &mut [u8], answers:
     if heap::sizes::order_of(arena, table, SLOT_ORDER) != m {
         return refused(8);
     }
-    if answers.len() / ANSWER_LENGTH < records {
+    let most = allowed_by(budget);
+    if answers.len() / ANSWER_LENGTH < most as usize {
         return refused(9);
     }
-    let registers = carry_out(file, arena, table, answers, m);
-    let count = records as u32;
-    Ran {
-        number: 0,
-        registers,
-        count,
-    }
+    carry_out(file, arena, table, answers, m, records, most)
 }
 
-// Runs a take on a lent arena and table: an upload from a computer.
-pub fn run(file: &[u8], arena: &mut [u8], table: &mut [u8], answers: &mut [u8]) -> Ran
+// Runs a take on a lent arena and table: an upload from a computer. It carries out at most as many records as the budget allows, for all of which the answer
+// slice must have room. The count is that of the definition's steps.
+pub fn run(file: &[u8], arena: &mut [u8], table: &mut [u8], answers: &mut [u8], budget: u32) -> Ran
     ensures { λ r. ⌜ ranTo r (now (arena .exit)) (now (table .exit)) (now (answers .exit))
-        ≡ runOf (now (file .entry)) (heapOf (now (arena .entry)) (now (table .entry))) (now (answers .entry)) ⌝ }
+        ≡ runOf (now (file .entry)) budget (heapOf (now (arena .entry)) (now (table .entry))) (now (answers .entry)) ⌝ }
+    ensures { λ r. ⌜ (r .number ≡ 0
+        → Counted (now (file .entry)) budget (now (answers .entry)) (ranTo r (now (arena .exit)) (now (table .exit)) (now (answers .exit)))) ⌝ }
 {
-    run_by(false, file, arena, table, answers)
+    run_by(false, file, arena, table, answers, budget)
 }
 
 // Runs a take from the front panel: one of more records than its screen can list is refused 26. What it accepts, and whatever the screen can list, it runs
 // as an upload.
-pub fn run_panel(file: &[u8], arena: &mut [u8], table: &mut [u8], answers: &mut [u8]) -> Ran
+pub fn run_panel(
+    file: &[u8],
+    arena: &mut [u8],
+    table: &mut [u8],
+    answers: &mut [u8],
+    budget: u32,
+) -> Ran
     ensures { λ r. ⌜ ranTo r (now (arena .exit)) (now (table .exit)) (now (answers .exit))
-        ≡ panelOf (now (file .entry)) (heapOf (now (arena .entry)) (now (table .entry))) (now (answers .entry)) ⌝ }
+        ≡ panelOf (now (file .entry)) budget (heapOf (now (arena .entry)) (now (table .entry))) (now (answers .entry)) ⌝ }
     ensures { λ r. ⌜ (r .number ≡ 0
         → ranTo r (now (arena .exit)) (now (table .exit)) (now (answers .exit))
-        ≡ runOf (now (file .entry)) (heapOf (now (arena .entry)) (now (table .entry))) (now (answers .entry))) ⌝ }
+        ≡ runOf (now (file .entry)) budget (heapOf (now (arena .entry)) (now (table .entry))) (now (answers .entry))) ⌝ }
     ensures { λ r. ⌜ (length (recordsOf (now (file .entry))) ≤ screenful
         → ranTo r (now (arena .exit)) (now (table .exit)) (now (answers .exit))
-        ≡ runOf (now (file .entry)) (heapOf (now (arena .entry)) (now (table .entry))) (now (answers .entry))) ⌝ }
+        ≡ runOf (now (file .entry)) budget (heapOf (now (arena .entry)) (now (table .entry))) (now (answers .entry))) ⌝ }
+    ensures { λ r. ⌜ (r .number ≡ 0
+        → Counted (now (file .entry)) budget (now (answers .entry)) (ranTo r (now (arena .exit)) (now (table .exit)) (now (answers .exit)))) ⌝ }
 {
-    run_by(true, file, arena, table, answers)
+    run_by(true, file, arena, table, answers, budget)
 }

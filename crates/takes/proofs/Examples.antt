@@ -1,12 +1,14 @@
 -- Document 01's worked take and refused files, computed by the definitions. To unfold `judged`, `numbers` or `readings` is to unfold all that it computes with.
 use Prim.Native.Nat.{ℕ}
 use mathlib.Core.Path.{_≡_, refl}
+use mathlib.Core.Bool.{true, false}
 use mathlib.Core.List.{List, [], _∷_, map}
 use lib.ListN.{replicate}
 use Rattle.takes.specs.Operations.{known, kindsOf, lengthOf}
 use Rattle.takes.specs.Records.{recordOf}
 use Rattle.takes.specs.Reading.{Given, readRules, readBytes, readAt, recordFound, recordRefused}
-use Rattle.takes.specs.Files.{walk, headNumber, fileNumber, recordsOf, judgement}
+use Rattle.takes.specs.Files.{walk, headNumber, strayFrom, fileNumber, recordsOf, judgement}
+use Rattle.takes.specs.JudgedBefore.{added, walkBefore, recordsBefore, numberBefore, addedFrom, hasAdded}
 use Rattle.takes.specs.Writing.{recordBytes, recordsBytes, fileOf}
 use Rattle.takes.specs.declared.Record.{Record}
 use Rattle.takes.specs.declared.Record.the-variants.{Get, Give, Step, Read}
@@ -14,7 +16,7 @@ use Rattle.takes.specs.declared.Judgement.{Judgement}
 
 -- a file's judgement and its records; the numbers of several files; the readings at several places of one
 judged : List ℕ → Judgement × List Record
-unfolding fileNumber headNumber recordsOf walk readBytes readRules known kindsOf recordOf
+unfolding fileNumber headNumber strayFrom recordsOf walk readBytes readRules known kindsOf recordOf
 judged file = (judgement file, recordsOf file)
 
 numbers : List (List ℕ) → List ℕ
@@ -25,8 +27,8 @@ readings : List ℕ → List ℕ → List Given
 unfolding judged
 readings file = map (readAt file)
 
--- document 01's column of lengths, then those of lock and unlock
-lengths : map lengthOf (1 ∷ 2 ∷ 3 ∷ 4 ∷ 5 ∷ 6 ∷ 7 ∷ 8 ∷ 9 ∷ 10 ∷ []) ≡ 6 ∷ 2 ∷ 7 ∷ 4 ∷ 7 ∷ 3 ∷ 8 ∷ 8 ∷ 2 ∷ 2 ∷ []
+-- document 01's column of lengths, then those of lock and unlock, again and set
+lengths : map lengthOf (1 ∷ 2 ∷ 3 ∷ 4 ∷ 5 ∷ 6 ∷ 7 ∷ 8 ∷ 9 ∷ 10 ∷ 11 ∷ 12 ∷ []) ≡ 6 ∷ 2 ∷ 7 ∷ 4 ∷ 7 ∷ 3 ∷ 8 ∷ 8 ∷ 2 ∷ 2 ∷ 4 ∷ 6 ∷ []
 unfolding kindsOf
 lengths = refl
 
@@ -87,6 +89,43 @@ refused-records : numbers
     ≡ 4 ∷ 4 ∷ 5 ∷ 6 ∷ 7 ∷ 7 ∷ []
 unfolding numbers
 refused-records = refl
+
+-- an again at index 0; one to its own index and one to an index past it; one that goes back; 7 before 29 in one record; 29 before a 4 in the next record, and
+-- after a 7 in the one before
+refused-repeats : numbers
+    (one (4 ∷ 11 ∷ 0 ∷ 0 ∷ 0 ∷ [])
+    ∷ one (2 ∷ 2 ∷ 0 ∷ 4 ∷ 11 ∷ 0 ∷ 0 ∷ 1 ∷ [])
+    ∷ one (2 ∷ 2 ∷ 0 ∷ 4 ∷ 11 ∷ 0 ∷ 1 ∷ 0 ∷ [])
+    ∷ one (2 ∷ 2 ∷ 0 ∷ 4 ∷ 11 ∷ 0 ∷ 0 ∷ 0 ∷ [])
+    ∷ one (4 ∷ 11 ∷ 16 ∷ 0 ∷ 0 ∷ [])
+    ∷ one (4 ∷ 11 ∷ 0 ∷ 0 ∷ 0 ∷ 0 ∷ [])
+    ∷ one (2 ∷ 2 ∷ 16 ∷ 4 ∷ 11 ∷ 0 ∷ 0 ∷ 1 ∷ [])
+    ∷ [])
+    ≡ 29 ∷ 29 ∷ 29 ∷ 0 ∷ 7 ∷ 29 ∷ 7 ∷ []
+unfolding numbers
+refused-repeats = refl
+
+-- before takes had them: an again and a set, of the right length and of another; one that is not whole; the one that a 7 stands before
+were-refused : map numberBefore
+    (one (4 ∷ 11 ∷ 0 ∷ 0 ∷ 0 ∷ [])
+    ∷ one (6 ∷ 12 ∷ 0 ∷ 0 ∷ 0 ∷ 0 ∷ 1 ∷ [])
+    ∷ one (2 ∷ 11 ∷ 16 ∷ [])
+    ∷ one (4 ∷ 12 ∷ 0 ∷ [])
+    ∷ one (2 ∷ 2 ∷ 16 ∷ 4 ∷ 11 ∷ 0 ∷ 0 ∷ 1 ∷ [])
+    ∷ [])
+    ≡ 5 ∷ 5 ∷ 5 ∷ 4 ∷ 7 ∷ []
+unfolding numbers numberBefore walkBefore
+were-refused = refl
+
+-- again and set were added, and no other operation of the table
+which-added : map added (1 ∷ 2 ∷ 3 ∷ 4 ∷ 5 ∷ 6 ∷ 7 ∷ 8 ∷ 9 ∷ 10 ∷ 11 ∷ 12 ∷ []) ≡
+    false ∷ false ∷ false ∷ false ∷ false ∷ false ∷ false ∷ false ∷ false ∷ false ∷ true ∷ true ∷ []
+which-added = refl
+
+-- the worked take has neither, and was accepted with the same records
+worked-before : (hasAdded worked ≡ false) × (numberBefore worked ≡ 0) × (recordsBefore worked ≡ workedRecords)
+unfolding judged numberBefore recordsBefore walkBefore addedFrom
+worked-before = (refl, refl, refl)
 
 -- the reader: at a record, past the end, at place 0 and inside a record
 read-anywhere : readings (1 ∷ 6 ∷ 2 ∷ 2 ∷ 0 ∷ []) (2 ∷ 5 ∷ 18446744073709551615 ∷ 0 ∷ 3 ∷ [])

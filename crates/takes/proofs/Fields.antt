@@ -13,7 +13,7 @@ use Rattle.common.specs.Bytes.{bigEndian, bytesOf}
 use Rattle.common.proofs.Bytes.{length-bytesOf}
 use Rattle.heap.specs.Registers.{registerCount}
 use Rattle.common.proofs.Booleans.{or-false-left, or-false-right}
-use Rattle.takes.specs.Operations.{Kind, register, byte, word, size, sizes}
+use Rattle.takes.specs.Operations.{Kind, register, byte, half, word, size, sizes}
 use Rattle.takes.specs.Reading.{values, isHigh, highRegister}
 use Rattle.takes.specs.Writing.{valueBytes}
 use Rattle.takes.specs.RoundTrips.{Fits, AllFit, Bytes}
@@ -42,8 +42,8 @@ module _ (s : List ℕ) (at : ℕ) (ks : List Kind) (k place : ℕ) (here : plac
   field-is : bigEndian s place (sizeOf ks k) ≡ getD (values ks (drop at s)) k 0
   field-is = rw here (sym (value-at ks (drop at s) k ∙ number-drop at (start ks k) (sizeOf ks k) s))
 
-  pub word-is : sizeOf ks k ≡ 4 → bigEndian s place 4 ≡ getD (values ks (drop at s)) k 0
-  word-is e = rw e at field-is
+  pub number-is : (w : ℕ) → sizeOf ks k ≡ w → bigEndian s place w ≡ getD (values ks (drop at s)) k 0
+  number-is w e = rw e at field-is
 
   pub byte-is : sizeOf ks k ≡ 1 → getD s place 0 ≡ getD (values ks (drop at s)) k 0
   byte-is e = sym (number-one s place) ∙ (rw e at field-is)
@@ -52,6 +52,7 @@ module _ (s : List ℕ) (at : ℕ) (ks : List Kind) (k place : ℕ) (here : plac
 fit-small : (κ : Kind) (v : ℕ) → Fits κ v → v < 256 ^ size κ
 fit-small register v h = omega arith
 fit-small byte v h = h
+fit-small half v h = h
 fit-small word v h = h
 
 pub values-forth : (ks : List Kind) (vs rest : List ℕ) → AllFit ks vs → length vs ≡ length ks → values ks (valueBytes ks vs ++ rest) ≡ vs
@@ -74,6 +75,7 @@ values-back (κ ∷ ks) bs h l =
 not-high : (κ : Kind) (v : ℕ) → Fits κ v → isHigh κ v ≡ false
 not-high register v h = lt-leb registerCount v h
 not-high byte v h = refl
+not-high half v h = refl
 not-high word v h = refl
 
 pub fit-low : (ks : List Kind) (vs : List ℕ) → AllFit ks vs → highRegister ks vs ≡ false
@@ -86,6 +88,7 @@ abbrev pub isRegister : List Kind → ℕ → Bool
 isRegister [] k = false
 isRegister (register ∷ ks) zero = true
 isRegister (byte ∷ ks) zero = false
+isRegister (half ∷ ks) zero = false
 isRegister (word ∷ ks) zero = false
 isRegister (κ ∷ ks) (suc k) = isRegister ks k
 
@@ -94,5 +97,6 @@ low-field [] vs k h e = absurd (false≢true e)
 low-field (κ ∷ ks) [] k h e = omega arith
 low-field (register ∷ ks) (v ∷ vs) zero h e = leb-false registerCount v (or-false-left (leb registerCount v) (highRegister ks vs) h)
 low-field (byte ∷ ks) (v ∷ vs) zero h e = absurd (false≢true e)
+low-field (half ∷ ks) (v ∷ vs) zero h e = absurd (false≢true e)
 low-field (word ∷ ks) (v ∷ vs) zero h e = absurd (false≢true e)
 low-field (κ ∷ ks) (v ∷ vs) (suc k) h e = low-field ks vs k (or-false-right (isHigh κ v) (highRegister ks vs) h) e

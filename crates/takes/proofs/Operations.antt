@@ -9,8 +9,7 @@ use lib.Dec.{eqb, leb, ltb}
 use lib.ListN.{length, getD}
 use borrow.Author.Tests.{eqb-true, ltb-true, ltb-false, leb-true, le-leb, lt-leb}
 use Rattle.common.proofs.Booleans.{and-left, and-right}
-use Rattle.heap.specs.OperationNumbers.{lastOperation, isOperation}
-use Rattle.takes.specs.Operations.{Row, _has_, operations, knownIn, known, kindsOf, sizes, lengthOf}
+use Rattle.takes.specs.Operations.{Row, _has_, operations, lastInTable, knownIn, known, kindsOf, sizes, lengthOf}
 use Rattle.takes.specs.Inner.{rows, columns, digits, rowOf}
 
 abbrev pub AllRows : (ℕ → Type 0) → List Row → Type 0
@@ -43,7 +42,8 @@ within op = ltb 0 op && (ltb op rows && (leb (length (kindsOf op)) columns && lt
 pub in-table : (op : ℕ) → known op ≡ true → InTable op
 unfolding kindsOf
 in-table op h =
-    let each : AllRows (λ op. within op ≡ true) operations = (refl, (refl, (refl, (refl, (refl, (refl, (refl, (refl, (refl, (refl, tt)))))))))) in
+    let each : AllRows (λ op. within op ≡ true) operations =
+    (refl, (refl, (refl, (refl, (refl, (refl, (refl, (refl, (refl, (refl, (refl, (refl, tt)))))))))))) in
     let a : within op ≡ true = every-operation (λ op. within op ≡ true) each op h in
     let b = and-right (ltb 0 op) (ltb op rows && (leb (length (kindsOf op)) columns && ltb (sizes (kindsOf op)) 255)) a in
     let d = and-right (ltb op rows) (leb (length (kindsOf op)) columns && ltb (sizes (kindsOf op)) 255) b in
@@ -66,7 +66,7 @@ tabulated-at g (suc n) (suc k) h = tabulated-at (λ k. g (suc k)) n k (le-of-suc
 
 -- the code's table, which computes to the rows of the numbers below `rows`
 abbrev pub table : List ℕ
-table = 0 ∷ 0x31_06 ∷ 0x1_02 ∷ 0x311_07 ∷ 0x211_04 ∷ 0x321_07 ∷ 0x11_03 ∷ 0x3111_08 ∷ 0x3211_08 ∷ 0x1_02 ∷ 0x1_02 ∷ []
+table = 0 ∷ 0x49_06 ∷ 0x9_02 ∷ 0x499_07 ∷ 0x199_04 ∷ 0x419_07 ∷ 0x99_03 ∷ 0x4999_08 ∷ 0x4199_08 ∷ 0x9_02 ∷ 0x9_02 ∷ 0x29_04 ∷ 0x49_06 ∷ []
 
 pub rows-right : (op : ℕ) → op < rows → getD table op 0 ≡ rowOf op
 unfolding rowOf known kindsOf
@@ -80,8 +80,11 @@ rows-past op h = go (known op) refl
     go true e = absurd (omega (arith, in-table op e))
     go false e = refl
 
--- the operations of the table are those that number the calls
-pub known-numbers : (op : ℕ) → known op ≡ isOperation op
+-- the operations of the table are the numbers up to its last
+abbrev pub listed : ℕ → Bool
+listed op = leb 1 op && leb op lastInTable
+
+pub known-numbers : (op : ℕ) → known op ≡ listed op
 unfolding known
 known-numbers op = go (ltb op rows) refl
   where
@@ -94,14 +97,14 @@ known-numbers op = go (ltb op rows) refl
     same false true e = absurd (omega arith)
     same false false e = refl
 
-    past : rows ≤ op → (b : Bool) → known op ≡ b → b ≡ isOperation op
+    past : rows ≤ op → (b : Bool) → known op ≡ b → b ≡ listed op
     past h true e = absurd (omega (arith, in-table op e .below))
-    past h false e = rw (le-leb 1 op (omega arith), lt-leb op lastOperation (omega arith))
+    past h false e = rw (le-leb 1 op (omega arith), lt-leb op lastInTable (omega arith))
 
-    go : (b : Bool) → ltb op rows ≡ b → known op ≡ isOperation op
+    go : (b : Bool) → ltb op rows ≡ b → known op ≡ listed op
     go true e =
         let l = ltb-true op rows e in
-        same (known op) (isOperation op) (sym (tabulated-at (λ k. bit (known k)) rows op l) ∙ tabulated-at (λ k. bit (isOperation k)) rows op l)
+        same (known op) (listed op) (sym (tabulated-at (λ k. bit (known k)) rows op l) ∙ tabulated-at (λ k. bit (listed k)) rows op l)
     go false e = past (ltb-false op rows e) (known op) refl
 
 -- What a row says: it is 0 where the table has no such operation, else the length byte and the kinds.

@@ -105,7 +105,7 @@ module _ (s : List ℕ) (at : ℕ) where
   length-at : lengthByte (drop at s) ≡ getD s at 0
   length-at = getD-drop at s 0 0 ∙ ap (λ (n : ℕ). getD s n 0) (add-zero at)
 
-  operation-at : operationByte (drop at s) ≡ getD s (at + 1) 0
+  pub operation-at : operationByte (drop at s) ≡ getD s (at + 1) 0
   operation-at = getD-drop at s 1 0
 
   pub past-end : length s ≤ at → recordRefused 4 ≡ readAt s at
@@ -140,7 +140,7 @@ module _ {s : List ℕ} {at n row : ℕ} (k : Counted s at n row) where
   unlisted h = sym (read-5 (drop at s) at fine (row-none op row row-here h))
 
   module _ (listed : row ≡ 0 → ⊥) where
-    known-at : known op ≡ true
+    pub known-at : known op ≡ true
     known-at = row-known op row row-here listed
 
     right-at : row % 256 ≡ lengthOf op

@@ -12,19 +12,20 @@ use borrow.Author.Tests.{lt-ltb, le-ltb}
 use Rattle.takes.specs.Operations.{Kind, known, kindsOf, sizes, lengthOf}
 use Rattle.takes.specs.Records.{operation, fields, recordOf}
 use Rattle.takes.specs.Reading.{values, highRegister}
-use Rattle.takes.specs.Inner.{byteAt, wordAt, getAt, giveAt, stepAt, readFieldsAt, writeAt, leftAt, copyAt, fillAt, lockAt, unlockAt}
+use Rattle.takes.specs.Inner.{byteAt, halfAt, wordAt, getAt, giveAt, stepAt, readFieldsAt, writeAt, leftAt, copyAt, fillAt, lockAt, unlockAt}
+use Rattle.takes.specs.Inner.{againAt, setAt}
 use Rattle.takes.specs.Writing.{valueBytes, recordBytes, writeRecord}
 use Rattle.takes.specs.Inner.{columns, padded}
 use Rattle.takes.specs.declared.Record.{Record}
-use Rattle.takes.specs.declared.Record.the-variants.{Get, Give, Step, Read, Write, Left, Copy, Fill, Lock, Unlock}
-use Rattle.takes.proofs.Fields.{start, sizeOf, byte-is, word-is}
+use Rattle.takes.specs.declared.Record.the-variants.{Get, Give, Step, Read, Write, Left, Copy, Fill, Lock, Unlock, Again, Set}
+use Rattle.takes.proofs.Fields.{start, sizeOf, byte-is, number-is}
 
 -- A law for each operation: the record of its fields, which start at `at`, each taken from its own place in the file.
 module _ (s : List ℕ) (at : ℕ) where
   abbrev pub made : ℕ → Record
   made op = recordOf op (values (kindsOf op) (drop at s))
 
-  -- a row's first field, a byte; its field k, where k bytes stand before it; and a word there
+  -- a row's first field, a byte; its field k, where k bytes stand before it; and a number of four bytes or of two there
   byte-here : (ks : List Kind) → sizeOf ks 0 ≡ 1 → byteAt s at ≡ getD (values ks (drop at s)) 0 0
   byte-here ks e = byte-is s at ks 0 at (sym (add-zero at)) e
 
@@ -32,7 +33,10 @@ module _ (s : List ℕ) (at : ℕ) where
   byte-from k ks p e = byte-is s at ks k (at + k) (rw p) e
 
   word-from : (k : ℕ) (ks : List Kind) → start ks k ≡ k → sizeOf ks k ≡ 4 → wordAt s (at + k) ≡ getD (values ks (drop at s)) k 0
-  word-from k ks p e = word-is s at ks k (at + k) (rw p) e
+  word-from k ks p e = number-is s at ks k (at + k) (rw p) 4 e
+
+  half-from : (k : ℕ) (ks : List Kind) → start ks k ≡ k → sizeOf ks k ≡ 2 → halfAt s (at + k) ≡ getD (values ks (drop at s)) k 0
+  half-from k ks p e = number-is s at ks k (at + k) (rw p) 2 e
 
   pub get-is : getAt s at ≡ made 1
   unfolding recordOf kindsOf
@@ -74,6 +78,14 @@ module _ (s : List ℕ) (at : ℕ) where
   unfolding recordOf kindsOf
   unlock-is = rw (byte-here (kindsOf 10) refl)
 
+  pub again-is : againAt s at ≡ made 11
+  unfolding recordOf kindsOf
+  again-is = rw (byte-here (kindsOf 11) refl, half-from 1 (kindsOf 11) refl refl)
+
+  pub set-is : setAt s at ≡ made 12
+  unfolding recordOf kindsOf
+  set-is = rw (byte-here (kindsOf 12) refl, word-from 1 (kindsOf 12) refl refl)
+
 pub record Sound (r : Record) : Type 0 where
   pub in-table : known (operation r) ≡ true
   pub bytes : length (valueBytes (kindsOf (operation r)) (fields r)) ≡ sizes (kindsOf (operation r))
@@ -93,6 +105,8 @@ sound (Copy d a b n) = record { in-table = refl; bytes = refl; columns = refl; p
 sound (Fill d a v n) = record { in-table = refl; bytes = refl; columns = refl; padded-high = refl; padded-bytes = refl }
 sound (Lock a) = record { in-table = refl; bytes = refl; columns = refl; padded-high = refl; padded-bytes = refl }
 sound (Unlock a) = record { in-table = refl; bytes = refl; columns = refl; padded-high = refl; padded-bytes = refl }
+sound (Again d k) = record { in-table = refl; bytes = refl; columns = refl; padded-high = refl; padded-bytes = refl }
+sound (Set d n) = record { in-table = refl; bytes = refl; columns = refl; padded-high = refl; padded-bytes = refl }
 
 -- what is made of the record s is made of r, which it is
 pub taken-apart : {r s : Record} {op : ℕ} {vs : List ℕ} → r ≡ s → (op ≡ operation s) × (vs ≡ padded (fields s)) → (op ≡ operation r) × (vs ≡ padded (fields r))

@@ -57,7 +57,7 @@ pub record Rewriting (file out₀ out : List ℕ) (at : ℕ) : Type 0 where
 module _ (file out : List ℕ) (size : ℕ) (w : Written) (out₁ : List ℕ) (good : fileNumber file ≡ 0) (size-is : size ≡ sizeByte file)
     (fits : length file ≤ length out) (head-written : writeOutcome w out₁ ≡ writeHead size out) where
   head : Head file
-  head = head-accepted file (file-accepted file good .0)
+  head = head-accepted file (file-accepted file good .head)
 
   room-for-head : headLength ≤ length out
   room-for-head = omega (arith, head .both)
@@ -82,7 +82,7 @@ module _ (file out : List ℕ) (size : ℕ) (w : Written) (out₁ : List ℕ) (g
         place = head .both;
         room = omega arith;
         same = refl;
-        accepted = file-accepted file good .1;
+        accepted = file-accepted file good .records;
         written = head-is ∙ ap (λ (l : List ℕ). take headLength file ++ l) (sym behind-head);
       }
 

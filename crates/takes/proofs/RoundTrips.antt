@@ -12,11 +12,11 @@ use borrow.Author.Tests.{ltb-true, ltb-false}
 use Rattle.takes.specs.Operations.{known, kindsOf, sizes, lengthOf}
 use Rattle.takes.specs.Records.{operation, fields, recordOf}
 use Rattle.takes.specs.Reading.{lengthByte, operationByte, fieldValues, values, highRegister}
-use Rattle.takes.specs.Files.{Walk, before, walkFrom, headLength, headNumber, recordsOf}
+use Rattle.takes.specs.Files.{Walk, before, walkFrom, headLength, headNumber, strayFrom, recordsOf}
 use Rattle.takes.specs.Writing.{valueBytes, recordBytes, recordsBytes, fileOf}
 use Rattle.takes.specs.RoundTrips.{RecordFits, RecordsFit, Bytes, RoundTrips}
 use Rattle.takes.specs.declared.Record.{Record}
-use Rattle.takes.specs.declared.Record.the-variants.{Get, Give, Step, Read, Write, Left, Copy, Fill, Lock, Unlock}
+use Rattle.takes.specs.declared.Record.the-variants.{Get, Give, Step, Read, Write, Left, Copy, Fill, Lock, Unlock, Again, Set}
 use Rattle.takes.proofs.Operations.{every-operation}
 use Rattle.takes.proofs.Fields.{values-forth, fit-low, values-back}
 use Rattle.takes.proofs.Records.{sound}
@@ -27,7 +27,7 @@ use Rattle.takes.proofs.Walks.{nextPlace, whole-inside, from-end, from-
 use Rattle.takes.proofs.WholeFiles.{Head, head-accepted, head-bytes, file-accepted, number-is}
 
 -- a record is made again from its parts
-remade : (r : Record) → (recordOf (operation r) (fields r) ≡ r) × (length (fields r) ≡ length (kindsOf (operation r)))
+pub remade : (r : Record) → (recordOf (operation r) (fields r) ≡ r) × (length (fields r) ≡ length (kindsOf (operation r)))
 unfolding recordOf kindsOf
 remade (Get d n) = (refl, refl)
 remade (Give a) = (refl, refl)
@@ -39,13 +39,15 @@ remade (Copy d a b n) = (refl, refl)
 remade (Fill d a v n) = (refl, refl)
 remade (Lock a) = (refl, refl)
 remade (Unlock a) = (refl, refl)
+remade (Again d k) = (refl, refl)
+remade (Set d n) = (refl, refl)
 
 -- the parts of a record that was made of a row's fields
-abbrev Parted : ℕ → Type 0
+abbrev pub Parted : ℕ → Type 0
 Parted op =
     (bs : List ℕ) → (operation (recordOf op (values (kindsOf op) bs)) ≡ op) × (fields (recordOf op (values (kindsOf op) bs)) ≡ values (kindsOf op) bs)
 
-parted : (op : ℕ) → known op ≡ true → Parted op
+pub parted : (op : ℕ) → known op ≡ true → Parted op
 unfolding recordOf kindsOf
 parted =
     every-operation Parted (
@@ -56,7 +58,13 @@ parted =
           λ bs. (refl, refl),
           (
             λ bs. (refl, refl),
-            (λ bs. (refl, refl), (λ bs. (refl, refl), (λ bs. (refl, refl), (λ bs. (refl, refl), (λ bs. (refl, refl), (λ bs. (refl, refl), tt)))))),
+            (
+              λ bs. (refl, refl),
+              (
+                λ bs. (refl, refl),
+                (λ bs. (refl, refl), (λ bs. (refl, refl), (λ bs. (refl, refl), (λ bs. (refl, refl), (λ bs. (refl, refl), (λ bs. (refl, refl), tt)))))),
+              ),
+            ),
           ),
         ),
       ),
@@ -148,11 +156,14 @@ round-trips =
           λ m rs low high fit short.
           let h : 0 ≡ headNumber (fileOf m rs) = good (fileOf m rs) (λ z. absurd (omega arith)) refl (omega arith) low high short in
           let w : walkFrom (fileOf m rs) headLength ≡ record { number = 0; records = rs } = walk-forth rs (fileOf m rs) headLength fit refl in
-          record
-          { number = number-is (fileOf m rs) h 0 (ap (λ (x : Walk). x .number) w); size = refl; records = ap (λ (x : Walk). x .records) w };
+          record {
+            number = number-is (fileOf m rs) h 0 (strayFrom 0 rs) (ap (λ (x : Walk). x .number) w) (ap (λ (x : Walk). strayFrom 0 (x .records)) w);
+            size = refl;
+            records = ap (λ (x : Walk). x .records) w;
+          };
       read-writes-back =
           λ file bytes accepted.
           let a = file-accepted file accepted in
-          let h : Head file = head-accepted file (a .0) in
-          ap₂ _++_ (head-bytes file h) (walk-back (length file) file headLength (omega arith) bytes (a .1)) ∙ take-append-drop headLength file;
+          let h : Head file = head-accepted file (a .head) in
+          ap₂ _++_ (head-bytes file h) (walk-back (length file) file headLength (omega arith) bytes (a .records)) ∙ take-append-drop headLength file;
     }

@@ -1,20 +1,23 @@
--- The walk over a row's kinds: a number whose hexadecimal digits are the kinds still to come, and the three loops that take them one by one.
+-- A row's kinds as the hexadecimal digits of a number: what the reader's tests of them tell, and the writer's two loops, which take them one by one.
 use Prim.Native.Nat.{ℕ, suc, _+_, _/_, _%_, _≤_, _<_}
 use mathlib.Core.Path.{_≡_, refl, sym, _∙_, ap}
-use mathlib.Core.Bool.{Bool, true, false, _||_}
+use mathlib.Core.Bool.{Bool, true, false, _||_, _&&_, cond}
 use mathlib.Core.List.{List, [], _∷_, _++_}
 use native.Mathlib.Omega.{arith}
 use native.Mathlib.Numerals.{add-one}
-use native.Mathlib.Nat.{add-zero}
+use lib.Dec.{leb}
 use lib.ListN.{length, getD, drop}
-use lib.Seq.{drop-cons, drop-drop}
+use lib.Seq.{drop-cons, getD-drop}
+use borrow.Author.Tests.{leb-true, le-leb, lt-leb}
 use Rattle.common.specs.Bytes.{bigEndian, bytesOf, over}
+use Rattle.common.proofs.Booleans.{or-none}
 use Rattle.common.proofs.Bytes.{over-none, over-append, length-bytesOf}
-use Rattle.takes.specs.Operations.{Kind, register, byte, word, size, sizes}
-use Rattle.takes.specs.Reading.{values, isHigh, highRegister}
+use Rattle.heap.specs.Registers.{registerCount}
+use Rattle.takes.specs.Operations.{Kind, register, byte, half, word, known, kindsOf, size, sizes}
+use Rattle.takes.specs.Reading.{operationByte, fieldValues, values, isHigh, highRegister}
 use Rattle.takes.specs.Writing.{valueBytes}
-use Rattle.takes.specs.Inner.{code, digits, sizeAt, highAt}
-use Rattle.takes.proofs.Numbers.{number-drop}
+use Rattle.takes.specs.Inner.{code, digits, sizeAt, highAt, byteAt}
+use Rattle.takes.proofs.Operations.{every-operation}
 use Rattle.takes.proofs.Fields.{number-one}
 
 -- What a number says that is not 0: the kind of the next field by its last digit, and the kinds after it by the others.
@@ -29,21 +32,25 @@ pub record Ahead (ks : List Kind) (n : ℕ) : Type 0 where
 last-digit : (κ : Kind) (ks : List Kind) → digits (κ ∷ ks) % 16 ≡ code κ
 last-digit register ks = omega arith
 last-digit byte ks = omega arith
+last-digit half ks = omega arith
 last-digit word ks = omega arith
 
 other-digits : (κ : Kind) (ks : List Kind) → digits (κ ∷ ks) / 16 ≡ digits ks
 other-digits register ks = omega arith
 other-digits byte ks = omega arith
+other-digits half ks = omega arith
 other-digits word ks = omega arith
 
 size-code : (κ : Kind) → sizeAt (code κ) ≡ size κ
 size-code register = refl
 size-code byte = refl
+size-code half = refl
 size-code word = refl
 
 high-code : (κ : Kind) (v : ℕ) → highAt (code κ) v ≡ isHigh κ v
 high-code register v = refl
 high-code byte v = refl
+high-code half v = refl
 high-code word v = refl
 
 pub ahead : (ks : List Kind) (n : ℕ) → n ≡ digits ks → (n ≡ 0 → ⊥) → Ahead ks n
@@ -64,52 +71,100 @@ none-ahead : (ks : List Kind) → 0 ≡ digits ks → ks ≡ []
 none-ahead [] e = refl
 none-ahead (register ∷ ks) e = absurd (omega arith)
 none-ahead (byte ∷ ks) e = absurd (omega arith)
+none-ahead (half ∷ ks) e = absurd (omega arith)
 none-ahead (word ∷ ks) e = absurd (omega arith)
 
 size-few : (κ : Kind) → (1 ≤ size κ) × (size κ ≤ 4)
 size-few register = (omega arith, omega arith)
 size-few byte = (omega arith, omega arith)
+size-few half = (omega arith, omega arith)
 size-few word = (omega arith, omega arith)
 
--- The reader's loop: the fields from `place` on hold a high register where the whole record does.
-pub record Looking (s : List ℕ) (whole : Bool) (kinds place : ℕ) : Type 0 where
-  pub rest : List Kind
-  pub coded : kinds ≡ digits rest
-  pub inside : place + sizes rest ≤ length s
-  pub same : highRegister rest (values rest (drop place s)) ≡ whole
+-- The reader's tests. In every row the registers, one to three, are the first fields; by their digits the second and the third field are registers or not.
+abbrev second : ℕ → Bool
+second kinds = leb 8 (kinds / 16 % 16)
 
--- of a field's first byte it is told whether the field is a high register
-above-first : (κ : Kind) (s : List ℕ) (place : ℕ) → isHigh κ (bigEndian (drop place s) 0 (size κ)) ≡ isHigh κ (getD s place 0)
-above-first register s place = ap (isHigh register) (number-drop place 0 1 s ∙ (number-one s (place + 0) ∙ ap (λ (n : ℕ). getD s n 0) (add-zero place)))
-above-first byte s place = refl
-above-first word s place = refl
+abbrev third : ℕ → Bool
+third kinds = leb 8 (kinds / 256 % 16)
 
-module _ {s : List ℕ} {whole : Bool} {kinds place : ℕ} (l : Looking s whole kinds place) where
-  pub looking-end : kinds ≡ 0 → false ≡ whole
-  looking-end z = rw (none-ahead (l .rest) (sym z ∙ l .coded)) at (l .same)
+abbrev registersIn : ℕ → ℕ
+registersIn kinds = 1 + cond (second kinds) (1 + cond (third kinds) 1 0) 0
 
-  module _ (some : kinds ≡ 0 → ⊥) where
-    abbrev here : Ahead (l .rest) kinds
-    here = ahead (l .rest) kinds (l .coded) some
+-- whether one of them is high, by the first three bytes of the fields
+abbrev highFirst : ℕ → ℕ → ℕ → ℕ → Bool
+highFirst kinds u v w = leb registerCount u || (second kinds && (leb registerCount v || (third kinds && (leb registerCount w || false))))
 
-    room : place + (size (here .kind) + sizes (here .after)) ≤ length s
-    room = rw (here .is) at (l .inside)
+abbrev Room : ℕ → Type 0
+Room op = leb (registersIn (digits (kindsOf op))) (sizes (kindsOf op)) ≡ true
 
-    pub looking-byte : place < length s
-    looking-byte = omega (arith, room, size-few (here .kind))
+room-first : (op : ℕ) → known op ≡ true → Room op
+unfolding kindsOf
+room-first = every-operation Room (refl, (refl, (refl, (refl, (refl, (refl, (refl, (refl, (refl, (refl, (refl, (refl, tt))))))))))))
 
-    high-here : (highAt (kinds % 16) (getD s place 0) || highRegister (here .after) (values (here .after) (drop (place + size (here .kind)) s))) ≡ whole
-    high-here =
-        rw (here .high-is (getD s place 0), ← above-first (here .kind) s place, ← drop-drop (size (here .kind)) place s)
-        (rw (here .is) at (l .same))
+abbrev one : List ℕ → ℕ
+one bs = bigEndian bs 0 1
 
-    pub looking-stop : true ≡ highAt (kinds % 16) (getD s place 0) → true ≡ whole
-    looking-stop h = rw (← h) at high-here
+abbrev High : ℕ → Type 0
+High op =
+    _≡_ {A = List ℕ → Bool} (λ bs. highRegister (kindsOf op) (values (kindsOf op) bs))
+    (λ bs. highFirst (digits (kindsOf op)) (one bs) (one (drop 1 bs)) (one (drop 1 (drop 1 bs))))
 
-    pub looking-turn : (n : ℕ) → n ≡ sizeAt (kinds % 16) → false ≡ highAt (kinds % 16) (getD s place 0) → Looking s whole (kinds / 16) (place + n)
-    looking-turn n e h =
-        let f : n ≡ size (here .kind) = e ∙ here .size-is in
-        record { rest = here .after; coded = here .rest-is; inside = omega (arith, room); same = rw f (rw (← h) at high-here) }
+high-first : (op : ℕ) → known op ≡ true → High op
+unfolding kindsOf
+high-first = every-operation High (refl, (refl, (refl, (refl, (refl, (refl, (refl, (refl, (refl, (refl, (refl, (refl, tt))))))))))))
+
+-- The record at a place of a file, as the tests find it, and what each of them tells.
+pub record Tested (s : List ℕ) (at kinds : ℕ) : Type 0 where
+  pub listed : known (operationByte (drop at s)) ≡ true
+  pub coded : kinds ≡ digits (kindsOf (operationByte (drop at s)))
+  pub fit : at + 2 + sizes (kindsOf (operationByte (drop at s))) ≤ length s
+
+module _ {s : List ℕ} {at kinds : ℕ} (t : Tested s at kinds) where
+  abbrev op : ℕ
+  op = operationByte (drop at s)
+
+  abbrev whole : Bool
+  whole = highRegister (kindsOf op) (fieldValues (drop at s))
+
+  room : at + 2 + registersIn kinds ≤ length s
+  room = let h = leb-true _ (sizes (kindsOf op)) (room-first op (t .listed)) in rw (t .coded) (omega (arith, t .fit, h))
+
+  high : highFirst kinds (byteAt s (at + 2)) (byteAt s (at + 3)) (byteAt s (at + 4)) ≡ whole
+  high =
+      let bs : List ℕ = drop 2 (drop at s) in
+      let u = number-one bs 0 ∙ (getD-drop 2 (drop at s) 0 0 ∙ getD-drop at s 2 0) in
+      let v = number-one (drop 1 bs) 0 ∙ (getD-drop 1 bs 0 0 ∙ (getD-drop 2 (drop at s) 1 0 ∙ getD-drop at s 3 0)) in
+      let w =
+      number-one (drop 1 (drop 1 bs)) 0 ∙ (getD-drop 1 (drop 1 bs) 0 0 ∙ (getD-drop 1 bs 1 0 ∙ (getD-drop 2 (drop at s) 2 0 ∙ getD-drop at s 4 0))) in
+      sym (rw (t .coded, ← u, ← v, ← w) (ap (λ (f : List ℕ → Bool). f bs) (high-first op (t .listed))))
+
+  pub first-inside : at + 2 < length s
+  first-inside = omega (arith, room)
+
+  pub first-high : registerCount ≤ byteAt s (at + 2) → true ≡ whole
+  first-high h = rw (le-leb registerCount _ h) at high
+
+  module _ (low : byteAt s (at + 2) < registerCount) where
+    pub no-second : kinds / 16 % 16 < 8 → false ≡ whole
+    no-second d = rw (lt-leb registerCount _ low, lt-leb 8 _ d) at high
+
+    module _ (two : 8 ≤ kinds / 16 % 16) where
+      pub second-inside : at + 3 < length s
+      second-inside = let h = rw (le-leb 8 _ two) at room in omega (arith, h)
+
+      pub second-high : registerCount ≤ byteAt s (at + 3) → true ≡ whole
+      second-high h = rw (lt-leb registerCount _ low, le-leb 8 _ two, le-leb registerCount _ h) at high
+
+      module _ (low-2 : byteAt s (at + 3) < registerCount) where
+        pub no-third : kinds / 256 % 16 < 8 → false ≡ whole
+        no-third d = rw (lt-leb registerCount _ low, le-leb 8 _ two, lt-leb registerCount _ low-2, lt-leb 8 _ d) at high
+
+        module _ (three : 8 ≤ kinds / 256 % 16) where
+          pub third-inside : at + 4 < length s
+          third-inside = let h = rw (le-leb 8 _ two, le-leb 8 _ three) at room in omega (arith, h)
+
+          pub third-tells : leb registerCount (byteAt s (at + 4)) ≡ whole
+          third-tells = or-none _ ∙ (rw (lt-leb registerCount _ low, le-leb 8 _ two, lt-leb registerCount _ low-2, le-leb 8 _ three) at high)
 
 -- The writer's first loop: the values from column k on have a high register where all have.
 pub record Seeking (vs : List ℕ) (whole : Bool) (kinds k : ℕ) : Type 0 where

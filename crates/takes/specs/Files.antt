@@ -3,10 +3,11 @@ use Prim.Native.Nat.{ℕ, zero, suc}
 use mathlib.Core.Bool.{Bool, true, false, not, cond, _||_}
 use mathlib.Core.List.{List, [], _∷_}
 use mathlib.Core.Option.{Option, none, some}
-use lib.Dec.{eqb, ltb}
+use lib.Dec.{eqb, leb, ltb}
 use lib.ListN.{length, getD}
 use Rattle.common.specs.Refusals.{Refusal, _when_, first}
 use Rattle.blocks.specs.Orders.{isArenaOrder}
+use Rattle.takes.specs.Records.{backTo}
 use Rattle.takes.specs.Reading.{Given, readAt}
 use Rattle.takes.specs.declared.Record.{Record}
 use Rattle.takes.specs.declared.Judgement.{Judgement}
@@ -54,6 +55,10 @@ sizeByte file = getD file 1 0
 abbrev pub recordsNumber : List ℕ → ℕ
 recordsNumber file = walkFrom file headLength .number
 
+-- the records of the file, up to that one
+unfoldable pub recordsOf : List ℕ → List Record
+recordsOf file = walkFrom file headLength .records
+
 abbrev pub headRules : List ℕ → List Refusal
 headRules file =
     1 when (eqb (length file) 0 || not (eqb (getD file 0 0) 1))
@@ -64,15 +69,31 @@ headRules file =
 unfoldable pub headNumber : List ℕ → ℕ
 headNumber file = first (headRules file)
 
--- 1, 2, 3, then record by record
+-- a record to go back to that is not before the record i
+abbrev pub notBefore : ℕ → Option ℕ → Bool
+notBefore i none = false
+notBefore i (some k) = leb i k
+
+-- an again, the record i of its file, that does not go back
+abbrev pub strays : ℕ → Record → Bool
+strays i r = notBefore i (backTo r)
+
+-- one of these records does so, the first of them being the record i
+unfoldable pub strayFrom : ℕ → List Record → Bool
+strayFrom i [] = false
+strayFrom i (r ∷ rs) = strays i r || strayFrom (suc i) rs
+
+-- 1, 2, 3, then record by record: 29 comes after 4 to 7 in its own record, and before them in a later one. `recordsOf` has the records before the first that 4
+-- to 7 refuse, so an again among them that does not go back stands before it.
 abbrev pub fileRules : List ℕ → List Refusal
-fileRules file = headNumber file when not (eqb (headNumber file) 0) ∷ recordsNumber file when not (eqb (recordsNumber file) 0) ∷ []
+fileRules file =
+    headNumber file when not (eqb (headNumber file) 0)
+    ∷ 29 when strayFrom 0 (recordsOf file)
+    ∷ recordsNumber file when not (eqb (recordsNumber file) 0)
+    ∷ []
 
 unfoldable pub fileNumber : List ℕ → ℕ
 fileNumber file = first (fileRules file)
-
-unfoldable pub recordsOf : List ℕ → List Record
-recordsOf file = walkFrom file headLength .records
 
 -- refused, it has no size and counts no record
 abbrev pub judgement : List ℕ → Judgement

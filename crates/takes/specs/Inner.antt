@@ -1,28 +1,32 @@
 -- What the parts of the code say to each other: the operation table as numbers, and each operation's record straight from the bytes of its fields. Only the
 -- contracts of inner functions cite these: no customer's call rests on them, and document 01 has none of them.
-use Prim.Native.Nat.{ℕ, _+_, _*_}
+use Prim.Native.Nat.{ℕ, _+_, _*_, _%_}
 use mathlib.Core.Bool.{Bool, false, cond}
 use mathlib.Core.List.{List, [], _∷_, _++_}
 use lib.Dec.{eqb, leb}
-use lib.ListN.{getD, take, replicate}
+use lib.ListN.{getD, take, drop, replicate}
 use Rattle.common.specs.Bytes.{bigEndian}
-use Rattle.heap.specs.OperationNumbers.{lastOperation}
 use Rattle.heap.specs.Registers.{registerCount}
-use Rattle.takes.specs.Operations.{Kind, register, byte, word, known, kindsOf, lengthOf}
+use Rattle.takes.specs.Operations.{Kind, register, byte, half, word, lastInTable, known, kindsOf, lengthOf}
+use Rattle.takes.specs.Records.{recordOf}
+use Rattle.takes.specs.Reading.{operationByte, fieldValues}
+use Rattle.takes.specs.Files.{strays}
 use Rattle.takes.specs.declared.Record.{Record}
-use Rattle.takes.specs.declared.Record.the-variants.{Get, Give, Step, Read, Write, Left, Copy, Fill, Lock, Unlock}
+use Rattle.takes.specs.declared.Record.the-variants.{Get, Give, Step, Read, Write, Left, Copy, Fill, Lock, Unlock, Again, Set}
 
 -- The table: one row more than there are operations, for the number 0, and the most fields that a row has
 abbrev pub rows : ℕ
-rows = lastOperation + 1
+rows = lastInTable + 1
 
 abbrev pub columns : ℕ
 columns = 4
 
+-- a kind's number: the bytes that a field takes, and 8 more for a register
 abbrev pub code : Kind → ℕ
-code register = 1
-code byte = 2
-code word = 3
+code register = 9
+code byte = 1
+code half = 2
+code word = 4
 
 -- kinds as the hexadecimal digits of a number, the first kind's digit the last
 abbrev pub digits : List Kind → ℕ
@@ -35,18 +39,21 @@ rowOf op = cond (known op) (lengthOf op + 256 * digits (kindsOf op)) 0
 
 -- by a kind's number: the bytes that a field takes, and whether a value is a register past the last
 abbrev pub sizeAt : ℕ → ℕ
-sizeAt c = cond (eqb c 3) 4 1
+sizeAt c = c % 8
 
 abbrev pub highAt : ℕ → ℕ → Bool
-highAt c v = cond (eqb c 1) (leb registerCount v) false
+highAt c v = cond (eqb c 9) (leb registerCount v) false
 
 -- values with zeros after them, one for each column
 abbrev pub padded : List ℕ → List ℕ
 padded vs = take columns (vs ++ replicate columns 0)
 
--- The records, whose fields start at a place of a file: a byte there, and a number of four bytes.
+-- The records, whose fields start at a place of a file: a byte there, and a number of two bytes or of four.
 abbrev pub byteAt : List ℕ → ℕ → ℕ
 byteAt file at = getD file at 0
+
+abbrev pub halfAt : List ℕ → ℕ → ℕ
+halfAt file at = bigEndian file at 2
 
 abbrev pub wordAt : List ℕ → ℕ → ℕ
 wordAt file at = bigEndian file at 4
@@ -81,3 +88,14 @@ lockAt file at = Lock (byteAt file at)
 
 abbrev pub unlockAt : List ℕ → ℕ → Record
 unlockAt file at = Unlock (byteAt file at)
+
+abbrev pub againAt : List ℕ → ℕ → Record
+againAt file at = Again (byteAt file at) (halfAt file (at + 1))
+
+-- of the operation set
+abbrev pub setAt : List ℕ → ℕ → Record
+setAt file at = Set (byteAt file at) (wordAt file (at + 1))
+
+-- whether the record at a place of the file, which is its record i, is an again that does not go back
+abbrev pub strayAt : List ℕ → ℕ → ℕ → Bool
+strayAt file at i = let bs = drop at file in strays i (recordOf (operationByte bs) (fieldValues bs))

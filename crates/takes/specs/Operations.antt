@@ -4,9 +4,9 @@ use mathlib.Core.Bool.{Bool, false, cond, _||_}
 use mathlib.Core.List.{List, [], _∷_}
 use lib.Dec.{eqb}
 
--- a register byte, a plain byte, or a big-endian number of four bytes
+-- a register byte, a plain byte, or a big-endian number of two bytes or of four
 pub data Kind : Type 0 where
-  register byte word : Kind
+  register byte half word : Kind
 
 pub data Row : Type 0 where
   _has_ : ℕ → List Kind → Row
@@ -34,7 +34,15 @@ operations =
     ∷ 9 has (register ∷ [])
     -- unlock a
     ∷ 10 has (register ∷ [])
+    -- again d k
+    ∷ 11 has (register ∷ half ∷ [])
+    -- set d n
+    ∷ 12 has (register ∷ word ∷ [])
     ∷ []
+
+-- the operations of the table are 1 to this one; the calls among them have the numbers by which a replay names them
+abbrev pub lastInTable : ℕ
+lastInTable = 12
 
 abbrev pub knownIn : List Row → ℕ → Bool
 knownIn [] op = false
@@ -56,6 +64,7 @@ kindsOf op = kindsIn operations op
 abbrev pub size : Kind → ℕ
 size register = 1
 size byte = 1
+size half = 2
 size word = 4
 
 abbrev pub sizes : List Kind → ℕ

@@ -8,7 +8,7 @@ use lib.ListN.{length, getD, drop}
 use Rattle.common.specs.Refusals.{Refusal, _when_, first}
 use Rattle.common.specs.Bytes.{bigEndian}
 use Rattle.heap.specs.Registers.{registerCount}
-use Rattle.takes.specs.Operations.{Kind, register, byte, word, size, known, kindsOf, lengthOf}
+use Rattle.takes.specs.Operations.{Kind, register, byte, half, word, size, known, kindsOf, lengthOf}
 use Rattle.takes.specs.Records.{recordOf}
 use Rattle.takes.specs.declared.Record.{Record}
 use Rattle.takes.specs.declared.Reading.{Reading}
@@ -23,6 +23,7 @@ values (k ∷ ks) bs = bigEndian bs 0 (size k) ∷ values ks (drop (size k) bs)
 abbrev pub isHigh : Kind → ℕ → Bool
 isHigh register v = leb registerCount v
 isHigh byte v = false
+isHigh half v = false
 isHigh word v = false
 
 -- whether one of the fields has such a value

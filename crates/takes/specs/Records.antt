@@ -2,10 +2,11 @@
 use Prim.Native.Nat.{ℕ}
 use mathlib.Core.Bool.{cond}
 use mathlib.Core.List.{List, [], _∷_}
+use mathlib.Core.Option.{Option, none, some}
 use lib.Dec.{eqb}
 use lib.ListN.{getD}
 use Rattle.takes.specs.declared.Record.{Record}
-use Rattle.takes.specs.declared.Record.the-variants.{Get, Give, Step, Read, Write, Left, Copy, Fill, Lock, Unlock}
+use Rattle.takes.specs.declared.Record.the-variants.{Get, Give, Step, Read, Write, Left, Copy, Fill, Lock, Unlock, Again, Set}
 
 abbrev pub operation : Record → ℕ
 operation (Get d n) = 1
@@ -18,6 +19,8 @@ operation (Copy d a b n) = 7
 operation (Fill d a v n) = 8
 operation (Lock a) = 9
 operation (Unlock a) = 10
+operation (Again d k) = 11
+operation (Set d n) = 12
 
 abbrev pub fields : Record → List ℕ
 fields (Get d n) = d ∷ n ∷ []
@@ -30,6 +33,23 @@ fields (Copy d a b n) = d ∷ a ∷ b ∷ n ∷ []
 fields (Fill d a v n) = d ∷ a ∷ v ∷ n ∷ []
 fields (Lock a) = a ∷ []
 fields (Unlock a) = a ∷ []
+fields (Again d k) = d ∷ k ∷ []
+fields (Set d n) = d ∷ n ∷ []
+
+-- the index of the record that an again goes back to
+abbrev pub backTo : Record → Option ℕ
+backTo (Get d n) = none
+backTo (Give a) = none
+backTo (Step d a i) = none
+backTo (Read d a w) = none
+backTo (Write a w v) = none
+backTo (Left d a) = none
+backTo (Copy d a b n) = none
+backTo (Fill d a v n) = none
+backTo (Lock a) = none
+backTo (Unlock a) = none
+backTo (Again d k) = some k
+backTo (Set d n) = none
 
 -- the record of an operation of the table, x k being its field k
 abbrev pub build : ℕ → (ℕ → ℕ) → Record
@@ -42,7 +62,9 @@ build op x =
     (cond (eqb op 6) (Left (x 0) (x 1))
     (cond (eqb op 7) (Copy (x 0) (x 1) (x 2) (x 3))
     (cond (eqb op 8) (Fill (x 0) (x 1) (x 2) (x 3))
-    (cond (eqb op 9) (Lock (x 0)) (Unlock (x 0))))))))))
+    (cond (eqb op 9) (Lock (x 0))
+    (cond (eqb op 10) (Unlock (x 0))
+    (cond (eqb op 11) (Again (x 0) (x 1)) (Set (x 0) (x 1))))))))))))
 
 unfoldable pub recordOf : ℕ → List ℕ → Record
 recordOf op values = build op (λ k. getD values k 0)

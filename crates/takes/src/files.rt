@@ -59,6 +59,13 @@ pub fn judge(file: &[u8]) -> Judgement
                 count: 0,
             };
         }
+        if unchecked::strays(file, at, count) {
+            return Judgement {
+                number: 29,
+                size: 0,
+                count: 0,
+            };
+        }
         at = unchecked::next(file, at);
         count += 1;
     }

@@ -11,7 +11,8 @@ mod table;
 pub mod unchecked;
 mod writer;
 
-// A call of a take with its fields, in the file's order: registers first, then what is given as it stands.
+// A record of a take with its fields, in the file's order: registers first, then what is given as it stands. All but the last two make a call; again goes
+// back to the record whose index it holds, and set puts a number in a register.
 pub enum Record {
     Get(u8, u32),
     Give(u8),
@@ -23,6 +24,8 @@ pub enum Record {
     Fill(u8, u8, u8, u32),
     Lock(u8),
     Unlock(u8),
+    Again(u8, u16),
+    Set(u8, u32),
 }
 
 // A record and the next place, or the number of a refusal.
@@ -43,6 +46,9 @@ pub struct Written {
     pub number: u32,
     pub count: u32,
 }
+
+// The last operation of the table.
+pub const LAST_OPERATION: u8 = 12;
 
 // Where the first record starts, and how long a file may be.
 pub const HEAD: usize = 2;

@@ -10,6 +10,18 @@ ghost use Rattle.takes.specs.Operations.{known, kindsOf, sizes};
 ghost use Rattle.takes.specs.Records.{recordOf};
 ghost use Rattle.takes.specs.Reading.{values, readAt};
 ghost use Rattle.takes.specs.Inner.{getAt, giveAt, stepAt, readFieldsAt, writeAt, leftAt, copyAt, fillAt, lockAt, unlockAt};
+ghost use Rattle.takes.specs.Inner.{halfAt, againAt, setAt, strayAt};
+
+// The operation that goes back to a record.
+const AGAIN: u8 = 11;
+
+// The index of a record, in two bytes.
+fn index_at(file: &[u8], at: usize) -> u16
+    requires { ⌜ at + 2 ≤ length (now file) ⌝ }
+    ensures { λ r. ⌜ r ≡ halfAt (now (file .entry)) at ⌝ }
+{
+    file[at] as u16 * 256 + file[at + 1] as u16
+}
 
 // Each operation's record from the bytes of its fields, which start at `at`: every field is taken straight from its place in the file.
 fn get_at(file: &[u8], at: usize) -> Record
@@ -92,6 +104,20 @@ fn unlock_at(file: &[u8], at: usize) -> Record
     Record::Unlock(file[at])
 }
 
+fn again_at(file: &[u8], at: usize) -> Record
+    requires { ⌜ at + 3 ≤ length (now file) ⌝ }
+    ensures { λ r. ⌜ r ≡ againAt (now (file .entry)) at ⌝ }
+{
+    Record::Again(file[at], index_at(file, at + 1))
+}
+
+fn set_at(file: &[u8], at: usize) -> Record
+    requires { ⌜ at + 5 ≤ length (now file) ⌝ }
+    ensures { λ r. ⌜ r ≡ setAt (now (file .entry)) at ⌝ }
+{
+    Record::Set(file[at], common::read_number(file, at + 1, 4))
+}
+
 // The record of any operation, from the place where its fields start.
 fn record_at(file: &[u8], at: usize, op: u8) -> Record
     requires { ⌜ known op ≡ true ⌝ }
@@ -108,7 +134,9 @@ fn record_at(file: &[u8], at: usize, op: u8) -> Record
         7 => copy_at(file, at),
         8 => fill_at(file, at),
         9 => lock_at(file, at),
-        _ => unlock_at(file, at),
+        10 => unlock_at(file, at),
+        11 => again_at(file, at),
+        _ => set_at(file, at),
     }
 }
 
@@ -127,4 +155,15 @@ pub fn next(file: &[u8], at: usize) -> usize
     ensures { λ r. ⌜ r ≡ readAt (now (file .entry)) at .next ⌝ }
 {
     at + 1 + index(file[at])
+}
+
+// Whether the record at a place, the file's record i, is an again that does not go back. Its index stands behind its register.
+pub fn strays(file: &[u8], at: usize, i: usize) -> bool
+    requires { ⌜ readAt (now file) at .number ≡ 0 ⌝ }
+    ensures { λ r. ⌜ r ≡ strayAt (now (file .entry)) at i ⌝ }
+{
+    if file[at + 1] != AGAIN {
+        return false;
+    }
+    i <= index_at(file, at + 3) as usize
 }

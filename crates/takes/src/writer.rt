@@ -49,6 +49,8 @@ fn values_of(r: Record) -> FieldValues
         Record::Fill(d, a, v, n) => field_values(8, [d as u32, a as u32, v as u32, n]),
         Record::Lock(a) => field_values(9, [a as u32, 0, 0, 0]),
         Record::Unlock(a) => field_values(10, [a as u32, 0, 0, 0]),
+        Record::Again(d, k) => field_values(11, [d as u32, k as u32, 0, 0]),
+        Record::Set(d, n) => field_values(12, [d as u32, n, 0, 0]),
     }
 }
 

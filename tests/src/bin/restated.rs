@@ -1,6 +1,6 @@
 //! Holds the stored vectors to those of an earlier revision: where a line differs, nothing may have changed in it but
-//! numbers of refusals, and only as allowed. Prints each file that changed, with the count of its changed lines, and the
-//! sums by change.
+//! numbers of refusals, and only as allowed. Files and lines at a file's end may have been added. Prints each file that
+//! changed, with the counts of its changed and added lines, and the sums by change.
 //!
 //!     restated REVISION OLD:NEW ..        for instance: restated HEAD~1 22:27
 
@@ -35,10 +35,10 @@ fn from_hex(digits: &str) -> Option<Vec<u8>> {
     pairs.map(|pair| u8::from_str_radix(std::str::from_utf8(pair).ok()?, 16).ok()).collect()
 }
 
-/// What changed in a run: its answers, five bytes a record, stand after number, count and registers; all else is equal.
+/// What changed in a run: its answers, five bytes a record, stand before arena and table at the end; all else is equal.
 fn answers(old: &str, new: &str) -> Option<Vec<Change>> {
     let (old, new): (Vec<_>, Vec<_>) = (old.split(' ').collect(), new.split(' ').collect());
-    let at = 18;
+    let at = old.len().checked_sub(3)?;
     if old.len() != new.len() || old[..at] != new[..at] || old[at + 1..] != new[at + 1..] {
         return None;
     }
@@ -80,9 +80,9 @@ fn main() {
         let name = file.path.strip_prefix(root()).expect("it is stored in the repository").display().to_string();
         let Some(place) = changed.iter().position(|other| *other == name) else { continue };
         changed.remove(place);
-        let lines =
-            compare(&file.form, &file.path, &git(&["show", &format!("{revision}:{name}")]), &allowed, &mut sums);
-        println!("{name}: {lines} lines");
+        let old = git(&["show", &format!("{revision}:{name}")]);
+        let lines = compare(&file.form, &file.path, &old, &allowed, &mut sums);
+        println!("{name}: {lines} lines, {} added", text(&file.path).lines().count() - old.lines().count());
     }
     assert!(changed.is_empty(), "these are no answers, or gone: {changed:?}");
     println!("{sums:?}");
@@ -91,7 +91,7 @@ fn main() {
 /// Counts the lines that changed, and adds up their changes.
 fn compare(form: &Form, path: &Path, old: &str, allowed: &[Change], sums: &mut BTreeMap<Change, usize>) -> usize {
     let new = text(path);
-    assert_eq!(old.lines().count(), new.lines().count(), "{}: another count of lines", path.display());
+    assert!(old.lines().count() <= new.lines().count(), "{}: lines are gone", path.display());
     let differ = old.lines().zip(new.lines()).enumerate().filter(|(_, (old, new))| old != new);
     let mut lines = 0;
     for (index, (old, new)) in differ {

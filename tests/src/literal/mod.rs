@@ -1,6 +1,6 @@
 //! Documents 01 and 02 word for word: each call reads the set of blocks from the table, feeds the ledger and writes
-//! the buffers back; a file is read, judged and written by the operation table as it is printed. It shares no code with
-//! `plain`.
+//! the buffers back; a file is read, judged and written by the operation table as it is printed, and run by the indices
+//! of its records. It shares no code with `plain`.
 
 mod takes;
 
@@ -124,39 +124,38 @@ impl Subject for Literal {
         Part { number, offset, length: value }
     }
 
-    fn run(file: &[u8], arena: &mut [u8], table: &mut [u8], answers: &mut [u8]) -> Ran {
-        let refused = |number| Ran { number, count: 0, registers: [0; 16] };
+    fn run(file: &[u8], arena: &mut [u8], table: &mut [u8], answers: &mut [u8], budget: u32) -> Ran {
         let records = match takes::judge(file) {
-            Err(number) => return refused(number),
+            Err(number) => return Ran::refused(number),
             Ok(records) => records,
         };
         if order(arena, table) != Some(u32::from(file[1])) {
-            return refused(8);
+            return Ran::refused(8);
         }
-        if answers.len() < 5 * records {
-            return refused(9);
+        // "above 4,096 counts as 4,096"; "its answer slice must hold five bytes for each, else 9"
+        let budget = if budget > 4_096 { 4_096 } else { budget as usize };
+        if answers.len() < 5 * budget {
+            return Ran::refused(9);
         }
         Literal::fresh(arena, table);
-        let mut registers = [0; 16];
-        let mut at = 2;
-        for index in 0..records {
-            let (record, next) = takes::read(file, at).expect("the file was judged");
-            at = next;
-            let (call, d) = call_of(record, &registers);
-            let answer = made(call, arena, table);
-            if let (0, Some(d)) = (answer.number, d) {
-                registers[usize::from(d)] = answer.value;
-            }
-            answers[5 * index] = answer.number as u8;
-            answers[5 * index + 1..5 * index + 5].copy_from_slice(&answer.value.to_be_bytes());
+        let mut between = Between::first();
+        let mut carried_out = 0;
+        while carried_out < budget && between.due < records.len() {
+            let answer = between.carry_out(records[between.due], |call| made(call, arena, table));
+            let place = 5 * carried_out;
+            answers[place] = answer.number as u8;
+            answers[place + 1..place + 5].copy_from_slice(&answer.value.to_be_bytes());
+            carried_out += 1;
         }
-        Ran { number: 0, count: records as u32, registers }
+        // "It stopped exactly when a record was still due after the budget"
+        let stopped = between.due < records.len();
+        Ran { number: 0, registers: between.registers, count: carried_out as u32, stopped }
     }
 
-    fn run_panel(file: &[u8], arena: &mut [u8], table: &mut [u8], answers: &mut [u8]) -> Ran {
+    fn run_panel(file: &[u8], arena: &mut [u8], table: &mut [u8], answers: &mut [u8], budget: u32) -> Ran {
         match takes::judge(file) {
-            Ok(records) if records > 64 => Ran { number: 26, count: 0, registers: [0; 16] },
-            _ => Literal::run(file, arena, table, answers),
+            Ok(records) if records.len() > 64 => Ran::refused(26),
+            _ => Literal::run(file, arena, table, answers, budget),
         }
     }
 
@@ -193,35 +192,89 @@ impl Subject for Literal {
     }
 }
 
-/// Feeds a file's records, up to the first bad one, to a fresh ledger of order m, and shows each call with the ledger
-/// before it and its number.
-pub fn each_record(file: &[u8], m: u32, mut met: impl FnMut(&Ledger, Call, u32)) {
-    let (mut heap, mut registers, mut at) = (Ledger::new(m), [0; 16], 2);
-    while let Ok((record, next)) = takes::read(file, at) {
-        at = next;
-        let (call, d) = call_of(record, &registers);
-        let before = heap.clone();
-        let Answer { number, value } = heap.feed(call);
-        met(&before, call, number);
-        if let (0, Some(d)) = (number, d) {
-            registers[usize::from(d)] = value;
+/// A run between two records: the index of the one that is due, and the registers.
+pub struct Between {
+    pub due: usize,
+    registers: [u32; 16],
+}
+
+impl Between {
+    /// "Sixteen 32-bit registers start at 0."
+    pub fn first() -> Between {
+        Between { due: 0, registers: [0; 16] }
+    }
+
+    /// Carries out the record that is due. Where it makes a call, `make` answers that.
+    pub fn carry_out(&mut self, record: Record, make: impl FnOnce(Call) -> Answer) -> Answer {
+        let answer = match call_of(record, &self.registers) {
+            Some(call) => make(call),
+            None => Answer { number: 0, value: self.value(record) },
+        };
+        // "goes to record k", if d is not 0: that is asked before the value is put in d
+        self.due = match record {
+            Record::Again { d, k } if self.registers[usize::from(d)] != 0 => usize::from(k),
+            _ => self.due + 1,
+        };
+        if let (0, Some(d)) = (answer.number, target(record)) {
+            self.registers[usize::from(d)] = answer.value;
+        }
+        answer
+    }
+
+    /// The value of a record that makes no call. "If d is not 0 it takes one from d [..]; its value is d afterwards."
+    fn value(&self, record: Record) -> u32 {
+        match record {
+            Record::Again { d, .. } if self.registers[usize::from(d)] != 0 => self.registers[usize::from(d)] - 1,
+            Record::Again { .. } => 0,
+            Record::Set { n, .. } => n,
+            _ => panic!("it makes a call: {record:?}"),
         }
     }
 }
 
-/// The call that a record makes, and the register that takes its value.
-pub fn call_of(record: Record, registers: &[u32; 16]) -> (Call, Option<u8>) {
+/// The records of a file, up to the first bad one.
+pub fn records(file: &[u8]) -> Vec<Record> {
+    takes::records(file).0
+}
+
+/// Carries out a file's records, up to the first bad one, on a fresh ledger of order m, and shows each call with the
+/// ledger before it and its number. After a few hundred records nothing new is met.
+pub fn each_call(file: &[u8], m: u32, mut met: impl FnMut(&Ledger, Call, u32)) {
+    let (records, mut heap, mut between) = (records(file), Ledger::new(m), Between::first());
+    for _ in 0..300 {
+        let Some(&record) = records.get(between.due) else { return };
+        between.carry_out(record, |call| {
+            let before = heap.clone();
+            let answer = heap.feed(call);
+            met(&before, call, answer.number);
+            answer
+        });
+    }
+}
+
+/// The call that a record makes, if it makes one: "with the values in a and b (p, q)".
+fn call_of(record: Record, registers: &[u32; 16]) -> Option<Call> {
     let held = |r: u8| registers[usize::from(r)];
+    Some(match record {
+        Record::Get { n, .. } => Call::Get { n },
+        Record::Give { a } => Call::Give { p: held(a) },
+        Record::Step { a, i, .. } => Call::Step { p: held(a), i },
+        Record::Read { a, w, .. } => Call::Read { p: held(a), w },
+        Record::Write { a, w, v } => Call::Write { p: held(a), w, v },
+        Record::Left { a, .. } => Call::Left { p: held(a) },
+        Record::Copy { a, b, n, .. } => Call::Copy { p: held(a), q: held(b), n },
+        Record::Fill { a, v, n, .. } => Call::Fill { p: held(a), v, n },
+        Record::Lock { a } => Call::Lock { p: held(a) },
+        Record::Unlock { a } => Call::Unlock { p: held(a) },
+        Record::Again { .. } | Record::Set { .. } => return None,
+    })
+}
+
+/// The register that takes a record's value, "if not refused".
+fn target(record: Record) -> Option<u8> {
     match record {
-        Record::Get { d, n } => (Call::Get { n }, Some(d)),
-        Record::Give { a } => (Call::Give { p: held(a) }, None),
-        Record::Step { d, a, i } => (Call::Step { p: held(a), i }, Some(d)),
-        Record::Read { d, a, w } => (Call::Read { p: held(a), w }, Some(d)),
-        Record::Write { a, w, v } => (Call::Write { p: held(a), w, v }, None),
-        Record::Left { d, a } => (Call::Left { p: held(a) }, Some(d)),
-        Record::Copy { d, a, b, n } => (Call::Copy { p: held(a), q: held(b), n }, Some(d)),
-        Record::Fill { d, a, v, n } => (Call::Fill { p: held(a), v, n }, Some(d)),
-        Record::Lock { a } => (Call::Lock { p: held(a) }, None),
-        Record::Unlock { a } => (Call::Unlock { p: held(a) }, None),
+        Record::Get { d, .. } | Record::Step { d, .. } | Record::Read { d, .. } | Record::Left { d, .. } => Some(d),
+        Record::Copy { d, .. } | Record::Fill { d, .. } | Record::Again { d, .. } | Record::Set { d, .. } => Some(d),
+        Record::Give { .. } | Record::Write { .. } | Record::Lock { .. } | Record::Unlock { .. } => None,
     }
 }

@@ -6,7 +6,8 @@ use crate::subject::{Answer, Place};
 use std::sync::LazyLock;
 
 /// Document 01, "A take": operation, fields, length. Request 7: "Operations 9 (lock) and 10 (unlock) have the field a,
-/// length 2".
+/// length 2". Request 9: "Operation 11, again, has a register d and a record index k of two big-endian bytes, length 4";
+/// "Operation 12, set, has d and a big-endian 4-byte number, length 6", here n.
 const PRINTED: &str = "
 | 1 get | d n | 6 |
 | 2 give | a | 2 |
@@ -18,6 +19,8 @@ const PRINTED: &str = "
 | 8 fill | d a v n | 8 |
 | 9 lock | a | 2 |
 | 10 unlock | a | 2 |
+| 11 again | d k | 4 |
+| 12 set | d n | 6 |
 ";
 
 struct Row {
@@ -43,10 +46,11 @@ fn row(line: &'static str) -> Row {
 }
 
 /// "d, a, b are register bytes; n, i and the v of write take 4 bytes big-endian (i two's complement); w and the v of
-/// fill one."
+/// fill one." k takes two.
 fn size(name: &str, field: &str) -> usize {
     match (name, field) {
         (_, "d" | "a" | "b" | "w") | ("fill", "v") => 1,
+        ("again", "k") => 2,
         (_, "n" | "i") | ("write", "v") => 4,
         _ => panic!("{name} has no field {field}"),
     }
@@ -84,6 +88,8 @@ fn record_of(name: &str, fields: &Fields) -> Record {
         "fill" => Record::Fill { d: byte("d"), a: byte("a"), v: byte("v"), n: word("n") },
         "lock" => Record::Lock { a: byte("a") },
         "unlock" => Record::Unlock { a: byte("a") },
+        "again" => Record::Again { d: byte("d"), k: u16::try_from(word("k")).expect("a field of two bytes") },
+        "set" => Record::Set { d: byte("d"), n: word("n") },
         _ => panic!("no operation {name}"),
     }
 }
@@ -101,6 +107,8 @@ fn named(record: Record) -> (&'static str, Fields) {
         Record::Fill { d, a, v, n } => ("fill", vec![("d", byte(d)), ("a", byte(a)), ("v", byte(v)), ("n", n)]),
         Record::Lock { a } => ("lock", vec![("a", byte(a))]),
         Record::Unlock { a } => ("unlock", vec![("a", byte(a))]),
+        Record::Again { d, k } => ("again", vec![("d", byte(d)), ("k", u32::from(k))]),
+        Record::Set { d, n } => ("set", vec![("d", byte(d)), ("n", n)]),
     }
 }
 
@@ -135,20 +143,37 @@ pub fn read(file: &[u8], at: usize) -> Place {
     Ok((record_of(row.name, &fields), at + 1 + length))
 }
 
-/// How many records an accepted file has: "1, 2, 3, then record by record (4 to 7, lowest first)".
-pub fn judge(file: &[u8]) -> Result<usize, u32> {
+/// The records of an accepted file: "1, 2, 3, then record by record (4 to 7, lowest first)".
+pub fn judge(file: &[u8]) -> Result<Vec<Record>, u32> {
     let size_byte = file.get(1).copied().unwrap_or(0);
     let head = [(1, file.first() != Some(&1)), (2, !(5..=16).contains(&size_byte)), (3, file.len() > 8_192)];
     if let Some((number, _)) = head.into_iter().find(|(_, applies)| *applies) {
         return Err(number);
     }
-    let mut records = 0;
+    let (records, number) = records(file);
+    if number == 0 {
+        Ok(records)
+    } else {
+        Err(number)
+    }
+}
+
+/// The records up to the end or the first that is refused, and its number, 0 where none is.
+pub fn records(file: &[u8]) -> (Vec<Record>, u32) {
+    let mut records = Vec::new();
     let mut at = 2;
     while at != file.len() {
-        (_, at) = read(file, at)?;
-        records += 1;
+        match read(file, at) {
+            Err(number) => return (records, number),
+            // "A k not below the record's own index is refused 29, judged after 7 in its record."
+            Ok((Record::Again { k, .. }, _)) if usize::from(k) >= records.len() => return (records, 29),
+            Ok((record, next)) => {
+                records.push(record);
+                at = next;
+            }
+        }
     }
-    Ok(records)
+    (records, 0)
 }
 
 /// The writer of the two head bytes for m (refused 2, 9).

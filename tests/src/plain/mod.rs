@@ -32,6 +32,7 @@ pub enum Refusal {
     TooManyRecords = 26,
     Outside = 27,
     Locked = 28,
+    NotBack = 29,
 }
 
 impl Refusal {

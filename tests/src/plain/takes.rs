@@ -12,7 +12,7 @@ pub const REGISTERS: usize = 16;
 /// Whether a record's registers are all among the sixteen.
 fn registers_good(record: Record) -> bool {
     let highest = match record {
-        Record::Get { d, .. } => d,
+        Record::Get { d, .. } | Record::Again { d, .. } | Record::Set { d, .. } => d,
         Record::Give { a } | Record::Write { a, .. } => a,
         Record::Lock { a } | Record::Unlock { a } => a,
         Record::Step { d, a, .. } | Record::Read { d, a, .. } => d.max(a),
@@ -43,7 +43,9 @@ pub fn read(file: &[u8], at: usize) -> Result<(Record, usize), Refusal> {
         [8, d, a, v, n0, n1, n2, n3] => Record::Fill { d, a, v, n: word(n0, n1, n2, n3) },
         [9, a] => Record::Lock { a },
         [10, a] => Record::Unlock { a },
-        [1..=10, ..] => return Err(OperationLength),
+        [11, d, k0, k1] => Record::Again { d, k: u16::from_be_bytes([k0, k1]) },
+        [12, d, n0, n1, n2, n3] => Record::Set { d, n: word(n0, n1, n2, n3) },
+        [1..=12, ..] => return Err(OperationLength),
         _ => return Err(Operation),
     };
     if registers_good(record) {
@@ -53,8 +55,13 @@ pub fn read(file: &[u8], at: usize) -> Result<(Record, usize), Refusal> {
     }
 }
 
-/// The arena's order and the count of records of an accepted file (refused 1 to 7).
+/// The arena's order and the count of records of an accepted file (refused 1 to 7, 29).
 pub fn judge(file: &[u8]) -> Result<(u32, usize), Refusal> {
+    judge_each(file, |_, _| {})
+}
+
+/// The same, and tells the index and the place of each record.
+pub fn judge_each(file: &[u8], mut met: impl FnMut(usize, usize)) -> Result<(u32, usize), Refusal> {
     if file.first() != Some(&VERSION) {
         return Err(Version);
     }
@@ -68,7 +75,12 @@ pub fn judge(file: &[u8]) -> Result<(u32, usize), Refusal> {
     let mut at = 2;
     let mut count = 0;
     while at < file.len() {
-        (_, at) = read(file, at)?;
+        let (record, next) = read(file, at)?;
+        if matches!(record, Record::Again { k, .. } if usize::from(k) >= count) {
+            return Err(NotBack);
+        }
+        met(count, at);
+        at = next;
         count += 1;
     }
     Ok((m, count))
@@ -87,7 +99,7 @@ pub fn write(out: &mut [u8], record: Record) -> Result<usize, Refusal> {
     if !registers_good(record) {
         return Err(Register);
     }
-    // the single bytes, how many of them the record has, and the word that follows them
+    // the single bytes, of an index each half, how many of them the record has, and the word that follows them
     let (head, count, word) = match record {
         Record::Get { d, n } => ([1, d, 0, 0], 2, Some(n)),
         Record::Give { a } => ([2, a, 0, 0], 2, None),
@@ -99,6 +111,8 @@ pub fn write(out: &mut [u8], record: Record) -> Result<usize, Refusal> {
         Record::Fill { d, a, v, n } => ([8, d, a, v], 4, Some(n)),
         Record::Lock { a } => ([9, a, 0, 0], 2, None),
         Record::Unlock { a } => ([10, a, 0, 0], 2, None),
+        Record::Again { d, k } => ([11, d, k.to_be_bytes()[0], k.to_be_bytes()[1]], 4, None),
+        Record::Set { d, n } => ([12, d, 0, 0], 2, Some(n)),
     };
     let mut bytes = [0; 9];
     let mut length = count;

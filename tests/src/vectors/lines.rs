@@ -1,9 +1,12 @@
 //! One line of a list of calls or of runs, with what a subject answers.
 
 use crate::call::Call;
+use crate::plain::takes;
 use crate::subject::{Answer, Caller, Subject};
 
-/// One run: the caller, the file and what is lent; then what is returned, and the three slices as they are left.
+/// One run: the caller, the file, what is lent and the budget; then what is returned, and the three slices as they are
+/// left. A run from before request 9 has no budget and does not tell whether it stopped: it is given as many records as
+/// its file has.
 pub fn run<S: Subject>(line: &str) -> String {
     let question = line.split(" = ").next().expect("a text has a first part");
     let words: Vec<&str> = question.split(' ').collect();
@@ -14,12 +17,22 @@ pub fn run<S: Subject>(line: &str) -> String {
         "panel" => Caller::Panel,
         other => panic!("no such run: {other}"),
     };
+    let file = bytes(words[1]);
+    let budget = match words.get(10) {
+        Some(&word) => {
+            assert_eq!(word, "budget", "{line}");
+            Some(words[11].parse().expect("a number of 32 bits"))
+        }
+        None => None,
+    };
     let lent = |k: usize| vec![number(3) as u8; number(k)];
     let (mut arena, mut table, mut answers) = (lent(5), lent(7), lent(9));
-    let ran = caller.run::<S>(&bytes(words[1]), &mut arena, &mut table, &mut answers);
+    let given = budget.unwrap_or(takes::judge(&file).map_or(0, |(_, count)| count as u32));
+    let ran = caller.run::<S>(&file, &mut arena, &mut table, &mut answers, given);
+    let stopped = budget.map_or(String::new(), |_| format!("{} ", u8::from(ran.stopped)));
     let registers = ran.registers.map(|register| register.to_string()).join(" ");
     let slices = [answers, arena, table].map(|slice| hexadecimal(&slice)).join(" ");
-    format!("{question} = {} {} {registers} {slices}", ran.number, ran.count)
+    format!("{question} = {} {} {stopped}{registers} {slices}", ran.number, ran.count)
 }
 
 /// The answer in a line that has one: what follows `=`, or the bytes of a buffer.

@@ -6,6 +6,7 @@
 
 mod lines;
 
+use crate::plain::runner::MOST_STEPS;
 use crate::subject::Subject;
 use lines::Heap;
 use std::fs;
@@ -143,8 +144,8 @@ pub fn takerun<S: Subject>(file: &[u8]) -> String {
     let m = file.get(1).copied().filter(|m| (5..=16).contains(m)).unwrap_or(5);
     let mut arena = vec![0xA5; 1 << m];
     let mut table = vec![0xA5; arena.len() / 16];
-    let mut answers = vec![0xA5; 5 * file.len()];
-    let ran = S::run(file, &mut arena, &mut table, &mut answers);
+    let mut answers = vec![0xA5; 5 * MOST_STEPS];
+    let ran = S::run(file, &mut arena, &mut table, &mut answers, MOST_STEPS as u32);
     if ran.number != 0 {
         return format!("refused {}\n", ran.number);
     }
@@ -153,5 +154,5 @@ pub fn takerun<S: Subject>(file: &[u8]) -> String {
         let value = answer[1..].iter().fold(0, |value, &byte| 256 * value + u32::from(byte));
         printed += &format!("{index} {} {value}\n", answer[0]);
     }
-    printed + &format!("end {}\n", ran.count)
+    printed + &format!("{} {}\n", if ran.stopped { "stopped" } else { "end" }, ran.count)
 }

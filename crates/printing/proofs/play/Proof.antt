@@ -133,19 +133,13 @@ module _ (c : tie.After-answers3) where
   answered : answerLength * run .run-in .result .count ≤ length (run .run-in .last .1 .1 .1 .0)
   answered =
       let r = run .run-in in
-      omega (arith, ran-room _ _ _ (r .result) _ _ _ (r .ensures .0) (accepted .if1 .left), r .kept .1 .1 .1 .0)
+      omega (arith, ran-room _ _ _ _ (r .result) _ _ _ (r .ensures .0) (accepted .if1 .left), r .kept .1 .1 .1 .0)
 
 print-answers-requires : tie.Need-print-answers-requires
 print-answers-requires c κs = answered c
 
-slice-aggregate-print-pair-3 : tie.Need-slice-aggregate-print-pair-3
-slice-aggregate-print-pair-3 c = search needs
-
-cast-print-pair-2 : tie.Need-cast-print-pair-2
-cast-print-pair-2 c = search needs
-
-print-pair-requires-3 : tie.Need-print-pair-requires-3
-print-pair-requires-3 c κs = search needs
+print-last-requires : tie.Need-print-last-requires
+print-last-requires c κs = search needs
 
 returns-2 : tie.Need-returns-2
 returns-2 c = search needs
@@ -173,7 +167,5 @@ play-spec =
     print-pair-requires-2
     slice-aggregate-print-answers
     print-answers-requires
-    slice-aggregate-print-pair-3
-    cast-print-pair-2
-    print-pair-requires-3
+    print-last-requires
     returns-2)

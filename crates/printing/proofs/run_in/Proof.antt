@@ -1,5 +1,6 @@
 -- What `runner::run` promises; on memory that fits, its number is the file's.
 use borrow.Author.Needs.{needs}
+use Rattle.runner.specs.TakeRuns.{mostSteps}
 use Rattle.runner.proofs.RunRefusals.{ran-number}
 use Rattle.printing.proofs.run_in.Statement.{statement}
 use Rattle.printing.proofs.run_in.Tie as tie
@@ -32,7 +33,8 @@ returns c =
     let r = done c .run in
     let a = start c .args in
     let f = start c .pre in
-    (r .ensures, ran-number (a .file .now) (a .arena .now) (a .table .now) (a .answers .now) (f .sizes) (f .answers) (r .result) _ _ _ (r .ensures))
+    let runs = r .ensures .0 in
+    (runs, ran-number (a .file .now) mostSteps (a .arena .now) (a .table .now) (a .answers .now) (f .sizes) (f .answers) (r .result) _ _ _ runs)
 
 pub run-in-spec : {M : Type 1} → statement M
 run-in-spec = tie.close (tie.spec run-requires same-length same-length-2 same-length-3 returns)

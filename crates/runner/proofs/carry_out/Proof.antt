@@ -1,36 +1,47 @@
 -- The loop keeps `Going`: what is still to come gives what the whole run gives. A file that was judged has no refused record, so each is read without
--- judging it again.
-use Prim.Native.Nat.{ℕ, _+_, _-_, _<_}
+-- judging it again, at its place, which is known of every record up to the one that is due.
+use Prim.Native.Nat.{ℕ, _+_, _-_, _*_, _≤_, _<_}
 use mathlib.Core.Path.{_≡_, refl, sym, _∙_, ap}
 use mathlib.Core.List.{List}
+use mathlib.Core.Logic.{_⊎_, inl, inr, ⊎-elim}
 use native.Mathlib.Omega.{arith}
 use borrow.Author.Needs.{needs}
-use lib.ListN.{length, set, length-set}
+use borrow.Author.Tests.{ltb-true, ltb-false}
+use lib.ListN.{length, getD, set, length-set}
 use lib.Seq.{set-out}
+use Rattle.takes.specs.Files.{longest, fileNumber, recordsOf}
 use Rattle.takes.specs.declared.Record.{Record}
 use Rattle.heap.specs.Answers.{answerLength}
 use Rattle.heap.specs.declared.Answer.{Answer}
-use Rattle.heap.specs.Registers.{registerCount, held}
-use Rattle.runner.specs.Decoding.{decoded, callOf, registersAfter}
-use Rattle.runner.specs.Inner.{stateOf, oneRecord, storedIn}
-use Rattle.runner.specs.declared.decoding.Operands.{Operands}
-use Rattle.runner.proofs.Records.{stored-in, one-record}
-use Rattle.runner.proofs.Running.{run-sized, Going, going-start, going-good, Ready, going-ready, going-step, going-end}
+use Rattle.runner.specs.Decoding.{registersAfter, dueAfter}
+use Rattle.runner.specs.TakeRuns.{mostSteps}
+use Rattle.runner.specs.Inner.{placeCount, LowRegisters, issuedWith, storedIn}
+use Rattle.runner.specs.declared.decoding.Issued.{Issued}
+use Rattle.runner.proofs.Files.{accepted-file, few-records}
+use Rattle.runner.proofs.Records.{stored-in}
+use Rattle.runner.proofs.Running.{run-sized, Placed, Going, going-start, going-end, here-placed, in-places, going-step}
+use Rattle.runner.proofs.Running.{placed-good, placed-next, placed-low}
 use Rattle.runner.proofs.carry_out.Statement.{statement}
 use Rattle.runner.proofs.carry_out.Tie as tie
 
 abbrev Inv-loop : tie.InvT-loop
-Inv-loop file arena₀ table₀ answers₀ m registers₀ at₀ place₀ arena table answers registers at place =
-    Going m file answers₀ arena table (registers .values) answers at place
+Inv-loop file arena₀ table₀ answers₀ m count most registers₀ places₀ due₀ done₀ arena table answers registers places due done =
+    Going m most file answers₀ arena table (registers .values) places answers due done
 
 abbrev μ-loop : tie.MeasureT-loop
-μ-loop file arena₀ table₀ answers₀ m registers₀ at₀ place₀ arena table answers registers at place = length file - at
+μ-loop file arena₀ table₀ answers₀ m count most registers₀ places₀ due₀ done₀ arena table answers registers places due done = most - done
 
 fresh-requires : tie.Need-fresh-requires Inv-loop μ-loop
 fresh-requires c κs = search needs
 
 at-first-requires : tie.Need-at-first-requires Inv-loop μ-loop
 at-first-requires c κs = search needs
+
+cast-places : tie.Need-cast-places Inv-loop μ-loop
+cast-places c = search needs
+
+array-write-places : tie.Need-array-write-places Inv-loop μ-loop
+array-write-places c = search needs
 
 -- before the loop: the heap is fresh, the registers are 0
 module _ (c : tie.After-at-first Inv-loop μ-loop) where
@@ -43,10 +54,7 @@ module _ (c : tie.After-at-first Inv-loop μ-loop) where
 loop-holds : tie.Need-loop-holds Inv-loop μ-loop
 loop-holds c =
     let f = made-fresh c .fresh in
-    let s = lent c in
-    let a = s .args in
-    going-start (a .m) (a .file .now) (a .arena .now) (a .table .now) (a .answers .now) (f .last .0) (f .last .1 .0) (c .at-first .result .values) (f .result)
-    (s .pre) (f .ensures) (c .at-first .ensures)
+    going-start (lent c .pre .0) (f .last .0) (f .last .1 .0) (c .at-first .result .values) _ (f .result) (f .ensures) (c .at-first .ensures) refl refl
 
 -- the loop's head, from which a record starts
 module _ (c : tie.At-loop Inv-loop μ-loop) where
@@ -59,130 +67,149 @@ module _ (c : tie.At-loop Inv-loop μ-loop) where
   abbrev rs : List ℕ
   rs = c .loop .registers .values
 
+  judged : fileNumber file ≡ 0
+  judged = start .pre .0 .judged
+
+-- a record is due, and the budget is not spent
+module _ (c : tie.Then1 Inv-loop μ-loop) where
+  abbrev head : tie.At-loop Inv-loop μ-loop
+  head = c .before .before
+
+  abbrev at : ℕ
+  at = getD (head .loop .places) (head .loop .due) 0
+
+  left : head .loop .due < length (recordsOf (file head))
+  left = omega (arith, ltb-true (head .loop .due) (start head .args .count) (c .if1 .taken), start head .pre .1)
+
+  more : head .loop .done < start head .args .most
+  more = c .before .loop-test .taken
+
+  here : Placed (file head) at (head .loop .due)
+  here = here-placed (head .loop .inv) (judged head) more left
+
+  in-room : head .loop .due + 1 < placeCount
+  in-room = in-places (head .loop .inv) (judged head) more left
+
+  -- its answer has room
+  answer-room : answerLength * head .loop .done + answerLength ≤ length (head .loop .answers)
+  answer-room = omega (arith, more, start head .pre .0 .room, head .loop .inv .same)
+
+  few : head .loop .done < mostSteps
+  few = omega (arith, more, start head .pre .0 .few)
+
+mul-at : tie.Need-mul-at Inv-loop μ-loop
+mul-at c = omega (arith, in-room c)
+
+array-read-at : tie.Need-array-read-at Inv-loop μ-loop
+array-read-at c = omega (arith, in-room c)
+
+-- a place lies in the file
+short : (c : tie.Then1 Inv-loop μ-loop) → at c ≤ longest
+short c = omega (arith, here c .inside, accepted-file (file (head c)) (judged (head c)) .head .short)
+
+cast-at : tie.Need-cast-at Inv-loop μ-loop
+cast-at c = omega (arith, short c)
+
 read-requires : tie.Need-read-requires Inv-loop μ-loop
-read-requires c κs = going-good (c .before .loop .inv) (c .loop-test .taken)
+read-requires c κs = placed-good (here c) (left c)
 
 next-requires : tie.Need-next-requires Inv-loop μ-loop
-next-requires c κs = going-good (c .before .before .loop .inv) (c .before .loop-test .taken)
+next-requires c κs = placed-good (here (c .before)) (left (c .before))
 
--- a record that was read, and the place after it
+-- the record that was read, and the place after it
 module _ (c : tie.After-next Inv-loop μ-loop) where
-  abbrev turn : tie.In-loop Inv-loop μ-loop
-  turn = c .before .before
-
-  abbrev head : tie.At-loop Inv-loop μ-loop
-  head = turn .before
-
-  ready : Ready (head .loop .answers) (head .loop .at) (head .loop .place) (c .before .read .result) (c .next .result)
-  ready = going-ready (head .loop .inv) (turn .loop-test .taken) (c .before .read .result) (c .next .result) (c .before .read .ensures) (c .next .ensures)
-
-operands-of-requires : tie.Need-operands-of-requires Inv-loop μ-loop
-operands-of-requires c κs = search needs
-
--- its registers a and b are among the sixteen
-module _ (c : tie.After-operands-of Inv-loop μ-loop) where
-  a-low : c .operands-of .result .a < registerCount
-  a-low = rw (c .operands-of .ensures) (ready (c .before) .a-low)
-
-  b-low : c .operands-of .result .b < registerCount
-  b-low = rw (c .operands-of .ensures) (ready (c .before) .b-low)
-
-cast-p : tie.Need-cast-p Inv-loop μ-loop
-cast-p c = search needs
-
-mul-p : tie.Need-mul-p Inv-loop μ-loop
-mul-p c = omega (arith, a-low (c .before))
-
-element-copy-out-p : tie.Need-element-copy-out-p Inv-loop μ-loop
-element-copy-out-p c = omega (arith, a-low (c .before))
-
-cast-q : tie.Need-cast-q Inv-loop μ-loop
-cast-q c = search needs
-
-mul-q : tie.Need-mul-q Inv-loop μ-loop
-mul-q c = omega (arith, b-low (c .before .before .before))
-
-element-copy-out-q : tie.Need-element-copy-out-q Inv-loop μ-loop
-element-copy-out-q c = omega (arith, b-low (c .before .before .before))
-
-call-with-requires : tie.Need-call-with-requires Inv-loop μ-loop
-call-with-requires c κs = search needs
-
--- a record's call, with the values in its registers
-module _ (c : tie.After-call-with Inv-loop μ-loop) where
-  abbrev held-both : tie.After-q Inv-loop μ-loop
-  held-both = c .before .before .before .before
-
-  abbrev named : tie.After-operands-of Inv-loop μ-loop
-  named = held-both .before .before .before .before
-
-  abbrev next : tie.After-next Inv-loop μ-loop
-  next = named .before
+  abbrev due-now : tie.Then1 Inv-loop μ-loop
+  due-now = c .before .before
 
   abbrev item : Record
-  item = next .before .read .result
+  item = c .before .read .result
 
-  abbrev loop : tie.At-loop Inv-loop μ-loop
-  loop = head next
+  after : Placed (file (head due-now)) (c .next .result) (head due-now .loop .due + 1)
+  after = placed-next (here due-now) (left due-now) item (c .next .result) (c .before .read .ensures) (c .next .ensures)
 
-  call-is : c .call-with .result ≡ callOf (rs loop) item
-  call-is =
-      c .call-with .ensures
-      ∙ ap (λ (r : Operands). decoded item .call (held (rs loop) (r .a)) (held (rs loop) (r .b))) (named .operands-of .ensures)
+  low : LowRegisters item
+  low = placed-low (here due-now) (left due-now) item (c .next .result) (c .before .read .ensures) (c .next .ensures)
+
+cast-places-2 : tie.Need-cast-places-2 Inv-loop μ-loop
+cast-places-2 c =
+    let h = head (due-now c) in
+    omega (arith, after c .inside, accepted-file (file h) (judged h) .head .short)
+
+add-places : tie.Need-add-places Inv-loop μ-loop
+add-places c = omega (arith, in-room (due-now c))
+
+mul-places : tie.Need-mul-places Inv-loop μ-loop
+mul-places c = omega (arith, in-room (due-now c))
+
+array-write-places-2 : tie.Need-array-write-places-2 Inv-loop μ-loop
+array-write-places-2 c = in-room (due-now c)
+
+issue-requires : tie.Need-issue-requires Inv-loop μ-loop
+issue-requires c κs = low (c .before .before)
+
+-- what the record does, with the values in its registers
+module _ (c : tie.After-issue Inv-loop μ-loop) where
+  abbrev read-on : tie.After-next Inv-loop μ-loop
+  read-on = c .before .before .before
+
+  abbrev turn : tie.Then1 Inv-loop μ-loop
+  turn = due-now read-on
+
+  issued : c .issue .result ≡ issuedWith (rs (head turn)) (item read-on)
+  issued = c .issue .ensures
+
+cast-place : tie.Need-cast-place Inv-loop μ-loop
+cast-place c = omega (arith, few (turn c))
+
+mul-place : tie.Need-mul-place Inv-loop μ-loop
+mul-place c = omega (arith, few (turn c))
 
 carry-out-one-requires : tie.Need-carry-out-one-requires Inv-loop μ-loop
-carry-out-one-requires c κs = (loop c .loop .inv .sound, ready (next c) .room)
+carry-out-one-requires c κs = let t = turn (c .before .before .before) in (head t .loop .inv .sound, answer-room t)
 
--- past the call: the state that it leaves once the value is in its register
+-- past it: where the run stands once the value is in its register
 module _ (c : tie.After-carry-out-one Inv-loop μ-loop) where
-  abbrev called : tie.After-call-with Inv-loop μ-loop
-  called = c .before
+  abbrev acting : tie.After-issue Inv-loop μ-loop
+  acting = c .before .before .before .before
 
   abbrev from : tie.At-loop Inv-loop μ-loop
-  from = loop called
+  from = head (turn acting)
 
   abbrev x : Answer
   x = c .carry-out-one .result
 
-  abbrev arena : List ℕ
-  arena = c .carry-out-one .last .0
-
-  abbrev table : List ℕ
-  table = c .carry-out-one .last .1 .0
-
-  abbrev answers : List ℕ
-  answers = c .carry-out-one .last .1 .1 .0
-
-  module _ (d : ℕ) (d-is : d ≡ storedIn (named called .operands-of .result .d) x) (rs′ : List ℕ) (stored : rs′ ≡ set (rs from) d (x .value)) where
-    registers-are : rs′ ≡ registersAfter (item called) x (rs from)
+  module _ (d : ℕ) (d-is : d ≡ storedIn (acting .issue .result .d) x) (rs′ : List ℕ) (stored : rs′ ≡ set (rs from) d (x .value)) where
+    registers-are : rs′ ≡ registersAfter (item (read-on acting)) x (rs from)
     registers-are =
         stored
-        ∙ (ap (λ (d : ℕ). set (rs from) d (x .value)) (d-is ∙ ap (λ (r : Operands). storedIn (r .d) x) (named called .operands-of .ensures))
-        ∙ stored-in (item called) x (rs from) (from .loop .inv .sixteen))
+        ∙ (ap (λ (d : ℕ). set (rs from) d (x .value)) (d-is ∙ ap (λ (r : Issued). storedIn (r .d) x) (issued acting))
+        ∙ stored-in (item (read-on acting)) x (rs from) (from .loop .inv .sixteen))
 
-    left : stateOf arena table rs′ answers
-        ≡ oneRecord (item called) (from .loop .place) (stateOf (from .loop .arena) (from .loop .table) (rs from) (from .loop .answers))
-    left =
-        one-record (start from .args .m) (from .loop .arena) (from .loop .table) (rs from) (from .loop .answers) (item called) (from .loop .place)
-        (called .call-with .result) x arena table rs′ answers
-        (from .loop .inv .sound) (call-is called) (c .carry-out-one .ensures .0) registers-are (c .carry-out-one .ensures .1)
+    on : (j : ℕ) → j ≡ dueAfter (acting .issue .result .action) (from .loop .due)
+        → Going (start from .args .m) (start from .args .most) (file from) (start from .args .answers .now)
+        (c .carry-out-one .last .0) (c .carry-out-one .last .1 .0) rs′
+        (set (from .loop .places) (from .loop .due + 1) (read-on acting .next .result)) (c .carry-out-one .last .1 .1 .0) j (from .loop .done + 1)
+    on j j-is =
+        let t = turn acting in
+        let n = read-on acting in
+        let k = c .carry-out-one in
+        going-step (from .loop .inv) (judged from) (more t) (left t) (item n) (n .next .result) (n .before .read .ensures) (n .next .ensures)
+        (acting .issue .result .action) x (k .last .0) (k .last .1 .0) rs′ (k .last .1 .1 .0) j (ap (λ (r : Issued). r .action) (issued acting))
+        (k .ensures .0) registers-are j-is
+        (k .ensures .1) (answer-room t) (ap length stored ∙ simp length-set) (k .kept .1 .1 .0)
 
-    on : Going (start from .args .m) (file from) (start from .args .answers .now) arena table rs′ answers
-        (next called .next .result) (from .loop .place + answerLength)
-    on =
-        going-step (from .loop .inv) (turn (next called) .loop-test .taken) (item called) (next called .next .result)
-        (next called .before .read .ensures) (next called .next .ensures)
-        arena table rs′ answers left (ap length stored ∙ simp length-set) (c .carry-out-one .kept .1 .1 .0)
-
--- after the call, where the loop's own variables are set
-module _ (c : tie.After-stored-in Inv-loop μ-loop) where
+-- the buffers are back, and then the record due next is known
+module _ (c : tie.After-due-after Inv-loop μ-loop) where
   abbrev made : tie.After-carry-out-one Inv-loop μ-loop
   made = c .before .before .before .before .before .before .before
 
-add-place : tie.Need-add-place Inv-loop μ-loop
-add-place c =
-    let n = next (called (c .before .before .before .before .before .before)) in
-    omega (arith, ready n .room, head n .loop .inv .same, start (head n) .good .1 .1 .1 .0 .0)
+due-after-requires : tie.Need-due-after-requires Inv-loop μ-loop
+due-after-requires c κs =
+    let t = turn (acting (c .before .before .before .before .before .before)) in
+    omega (arith, left t, few-records (file (head t)) (judged (head t)))
+
+add-done : tie.Need-add-done Inv-loop μ-loop
+add-done c = omega (arith, few (turn (acting (made c))))
 
 stored-in-requires : tie.Need-stored-in-requires Inv-loop μ-loop
 stored-in-requires c κs = search needs
@@ -191,35 +218,54 @@ mul-registers : tie.Need-mul-registers Inv-loop μ-loop
 mul-registers c = search needs
 
 element-write-registers : tie.Need-element-write-registers Inv-loop μ-loop
-element-write-registers c = c .if1 .taken
+element-write-registers c = c .if2 .taken
 
 loop-less : tie.Need-loop-less Inv-loop μ-loop
-loop-less c = let n = next (called (made (c .before))) in omega (arith, turn n .loop-test .taken, ready n .further)
+loop-less c = let t = turn (acting (made (c .before .before))) in omega (arith, more t)
 
 loop-again : tie.Need-loop-again Inv-loop μ-loop
-loop-again c = let t = c .before in on (made t) (t .stored-in .result) (t .stored-in .ensures) _ refl
+loop-again c =
+    let t = c .before in
+    let d = t .before in
+    on (made d) (t .stored-in .result) (t .stored-in .ensures) _ refl (d .due-after .result) (d .due-after .ensures)
 
 loop-less-2 : tie.Need-loop-less-2 Inv-loop μ-loop
-loop-less-2 c = let n = next (called (made (c .before))) in omega (arith, turn n .loop-test .taken, ready n .further)
+loop-less-2 c = let t = turn (acting (made (c .before .before))) in omega (arith, more t)
 
 loop-again-2 : tie.Need-loop-again-2 Inv-loop μ-loop
 loop-again-2 c =
     let t = c .before in
-    let l = from (made t) in
-    on (made t) (t .stored-in .result) (t .stored-in .ensures) (rs l)
-    (sym (set-out (rs l) (t .stored-in .result) (made t .carry-out-one .result .value) (omega (arith, c .if1 .left, l .loop .inv .sixteen))))
+    let d = t .before in
+    let l = from (made d) in
+    on (made d) (t .stored-in .result) (t .stored-in .ensures) (rs l)
+    (sym (set-out (rs l) (t .stored-in .result) (made d .carry-out-one .result .value) (omega (arith, c .if2 .left, l .loop .inv .sixteen))))
+    (d .due-after .result) (d .due-after .ensures)
+
+ended-requires : tie.Need-ended-requires Inv-loop μ-loop
+ended-requires c κs = search needs
 
 same-length : tie.Need-same-length Inv-loop μ-loop
-same-length c = c .before .loop .inv .sound .size ∙ sym (run-sized (start (c .before) .pre) .size)
+same-length c = c .before .before .loop .inv .sound .size ∙ sym (run-sized (start (c .before .before) .pre .0) .size)
 
 same-length-2 : tie.Need-same-length-2 Inv-loop μ-loop
-same-length-2 c = c .before .loop .inv .sound .slots ∙ sym (run-sized (start (c .before) .pre) .slots)
+same-length-2 c = c .before .before .loop .inv .sound .slots ∙ sym (run-sized (start (c .before .before) .pre .0) .slots)
 
 same-length-3 : tie.Need-same-length-3 Inv-loop μ-loop
-same-length-3 c = c .before .loop .inv .same
+same-length-3 c = c .before .before .loop .inv .same
+
+-- out of the loop: the budget is spent, or no record is due
+ended : (c : tie.Left-loop Inv-loop μ-loop) → (start (c .before) .args .most ≤ c .before .loop .done)
+    ⊎ (length (recordsOf (file (c .before))) ≤ c .before .loop .due)
+ended c =
+    ⊎-elim
+    (λ w. inr (omega (arith, ltb-false (c .before .loop .due) (start (c .before) .args .count) (w .1 .left), start (c .before) .pre .1)))
+    (λ w. inl (w .left))
+    (c .loop-test .came)
 
 returns : tie.Need-returns Inv-loop μ-loop
-returns c = going-end (c .before .loop .inv) (c .loop-test .left)
+returns c =
+    let l = c .before in
+    rw (c .ended .ensures, ← start (l .before) .pre .1) (going-end (l .before .loop .inv) (ended l))
 
 pub carry-out-spec : {M : Type 1} → statement M
 carry-out-spec =
@@ -229,19 +275,24 @@ carry-out-spec =
     μ-loop
     fresh-requires
     at-first-requires
+    cast-places
+    array-write-places
     loop-holds
+    mul-at
+    array-read-at
+    cast-at
     read-requires
     next-requires
-    operands-of-requires
-    cast-p
-    mul-p
-    element-copy-out-p
-    cast-q
-    mul-q
-    element-copy-out-q
-    call-with-requires
+    cast-places-2
+    add-places
+    mul-places
+    array-write-places-2
+    issue-requires
+    cast-place
+    mul-place
     carry-out-one-requires
-    add-place
+    due-after-requires
+    add-done
     stored-in-requires
     mul-registers
     element-write-registers
@@ -249,6 +300,7 @@ carry-out-spec =
     loop-again
     loop-less-2
     loop-again-2
+    ended-requires
     same-length
     same-length-2
     same-length-3

@@ -37,6 +37,25 @@ pub fn mixed_take(m: u32, records: usize) -> Vec<u8> {
     take(m, &[Record::Get { d: 0, n: size }], &walk, records)
 }
 
+/// The hits of a roll.
+const HITS: usize = 16;
+
+/// Rolls of sixteen hits through one block, a write and a step for each hit: written out, and by again.
+pub fn rolls(m: u32, rolls: usize) -> [Vec<u8>; 2] {
+    let (block, hit, left) = (0, 1, 2);
+    let first = [Record::Get { d: block, n: HITS as u32 }];
+    let start = Record::Step { d: hit, a: block, i: 0 };
+    let hits = [Record::Write { a: hit, w: 1, v: 127 }, Record::Step { d: hit, a: hit, i: 1 }];
+    let written: Vec<Record> = [start].into_iter().chain(hits.into_iter().cycle().take(2 * HITS)).collect();
+    let mut repeated = first.to_vec();
+    for _ in 0..rolls {
+        repeated.extend([start, Record::Set { d: left, n: HITS as u32 - 1 }]);
+        let k = repeated.len() as u16;
+        repeated.extend(hits.into_iter().chain([Record::Again { d: left, k }]));
+    }
+    [take(m, &first, &written, 1 + rolls * written.len()), take(m, &repeated, &[], repeated.len())]
+}
+
 /// Gets and gives of many sizes with up to a dozen blocks live, for which there is always room.
 pub fn churning_take(m: u32) -> Vec<u8> {
     let mut file = vec![takes::VERSION, m as u8];

@@ -1,6 +1,6 @@
 //! Runs of whole takes.
 
-use crate::files::{churning_take, mixed_take, records_of, take};
+use crate::files::{self, churning_take, mixed_take, records_of, take};
 use crate::print::{line, title, LINE};
 use crate::race::race;
 use crate::tables::Heap;
@@ -22,6 +22,19 @@ pub fn section() {
     run_line("fills of 16 bytes, m = 10", &only(Record::Fill { d: 1, a: 0, v: 7, n: 16 }));
     let file = churning_take(16);
     run_line(&format!("get and give, {} records, m = 16", records_of(&file)), &file);
+    roll_lines(10, 30);
+}
+
+/// The same hits written out and by again, a roll and a record.
+fn roll_lines(m: u32, rolls: usize) {
+    let files = files::rolls(m, rolls);
+    title(&format!("A roll of sixteen hits, in takes of {rolls} rolls, m = {m}"), &LINE);
+    for (name, file) in ["written out", "by again"].into_iter().zip(&files) {
+        let carried_out = works::run::<Plain>(file)(&mut Heap::fresh(m)) as usize;
+        let [bytes, records] = [file.len(), carried_out].map(|all| all / rolls);
+        line(&format!("{name}: a roll, {bytes} bytes, {records} records"), 1.0, run_times(file, rolls), &[]);
+        line(&format!("{name}: a record"), 1.0, run_times(file, carried_out), &[]);
+    }
 }
 
 /// A file's run, a record.

@@ -1,12 +1,12 @@
 //! What the contenders do. The arguments of a call lie in its work, where the compiler does not see them: it can't make
 //! code for these arguments alone.
 
-use crate::files::records_of;
 use crate::race::Work;
 use crate::tables::Heap;
 use std::hint::black_box;
 use tulivombe_tests::call::Call;
 use tulivombe_tests::plain::heap::BASE;
+use tulivombe_tests::plain::runner::{ANSWER, MOST_STEPS};
 use tulivombe_tests::subject::{Answer, Subject};
 
 /// A direct call.
@@ -95,10 +95,10 @@ pub fn search<'a>(
 }
 
 pub fn run<'a, S: Subject + 'a>(file: &'a [u8]) -> Work<'a> {
-    let mut answers = vec![0; 5 * records_of(file)];
+    let mut answers = vec![0; ANSWER * MOST_STEPS];
     Box::new(move |heap| {
-        let ran = S::run(file, &mut heap.arena, &mut heap.table, &mut answers);
-        assert_eq!(ran.number, 0);
+        let ran = S::run(file, &mut heap.arena, &mut heap.table, &mut answers, MOST_STEPS as u32);
+        assert!(ran.number == 0 && !ran.stopped);
         ran.count
     })
 }

@@ -1,7 +1,7 @@
 -- The loop's invariant (`Judging`): the records still to come give what the whole file gives, with those counted so far. It ends at a record that is refused,
--- whose number is the file's, or at the file's end.
+-- whose number is the file's, at an again that does not go back, or at the file's end.
 use Prim.Native.Nat.{ℕ, _-_}
-use mathlib.Core.Path.{_≡_, sym, _∙_}
+use mathlib.Core.Path.{_≡_, refl, sym, _∙_}
 use mathlib.Core.List.{List}
 use native.Mathlib.Omega.{arith}
 use lib.ListN.{length, drop}
@@ -10,7 +10,7 @@ use Rattle.takes.specs.Reading.{readAt}
 use Rattle.takes.specs.Files.{headNumber}
 use Rattle.takes.proofs.Readings.{theRecord}
 use Rattle.takes.proofs.Walks.{Next, next-judged}
-use Rattle.takes.proofs.WholeFiles.{Judging, Head, head-accepted, judged-head, judging-start, judging-turn, judging-stop, judging-end}
+use Rattle.takes.proofs.WholeFiles.{Judging, Head, head-accepted, judged-head, judging-start, judging-turn, judging-stop, judging-stray, judging-end}
 use Rattle.takes.proofs.files.judge.Statement.{statement}
 use Rattle.takes.proofs.files.judge.Tie as tie
 
@@ -59,19 +59,32 @@ module _ (c : tie.Else2 Inv-loop μ-loop) where
   good : readAt (file (here .before)) (here .loop .at) .number ≡ 0
   good = sym (c .before .refusal .ensures) ∙ c .if2 .left
 
+strays-requires : tie.Need-strays-requires Inv-loop μ-loop
+strays-requires c κs = good c
+
+returns-3 : tie.Need-returns-3 Inv-loop μ-loop
+returns-3 c =
+    let t = c .before in
+    let g = t .before in
+    let l = here g in
+    let e = l .before in
+    judging-stray (file e) (no-number e) (l .loop .at) (l .loop .count) _ _ (l .loop .inv) (next-judged (file e) (l .loop .at) (good g) _ refl)
+    (sym (t .strays .ensures) ∙ c .if3 .taken)
+
+-- that goes on, or back
 next-requires : tie.Need-next-requires Inv-loop μ-loop
-next-requires c κs = good c
+next-requires c κs = good (c .before .before)
 
 -- and the place after it
 module _ (c : tie.After-next Inv-loop μ-loop) where
   abbrev turn : tie.At-loop Inv-loop μ-loop
-  turn = here (c .before)
+  turn = here (c .before .before .before)
 
   abbrev bytes : List ℕ
   bytes = file (turn .before)
 
   after : Next bytes (turn .loop .at) (theRecord (drop (turn .loop .at) bytes)) (c .next .result)
-  after = next-judged bytes (turn .loop .at) (good (c .before)) (c .next .result) (c .next .ensures)
+  after = next-judged bytes (turn .loop .at) (good (c .before .before .before)) (c .next .result) (c .next .ensures)
 
 add-count : tie.Need-add-count Inv-loop μ-loop
 add-count c = omega arith
@@ -80,7 +93,9 @@ loop-less : tie.Need-loop-less Inv-loop μ-loop
 loop-less c = omega (arith, after c)
 
 loop-again : tie.Need-loop-again Inv-loop μ-loop
-loop-again c = let l = turn c .loop in judging-turn (bytes c) (l .at) (l .count) _ (c .next .result) (l .inv) (after c)
+loop-again c =
+    let l = turn c .loop in
+    judging-turn (bytes c) (l .at) (l .count) _ (c .next .result) (l .inv) (after c) (sym (c .before .before .strays .ensures) ∙ c .before .if3 .left)
 
 shared-slice-read-wide : tie.Need-shared-slice-read-wide Inv-loop μ-loop
 shared-slice-read-wide c = omega (arith, head (c .before .before .before) .both)
@@ -88,8 +103,8 @@ shared-slice-read-wide c = omega (arith, head (c .before .before .before) .both)
 wide-requires : tie.Need-wide-requires Inv-loop μ-loop
 wide-requires c κs = search needs
 
-returns-3 : tie.Need-returns-3 Inv-loop μ-loop
-returns-3 c =
+returns-4 : tie.Need-returns-4 Inv-loop μ-loop
+returns-4 c =
     let out = c .before .before in
     let l = out .before in
     let e = l .before in
@@ -106,10 +121,12 @@ judge-spec =
     loop-holds
     refusal-requires
     returns-2
+    strays-requires
+    returns-3
     next-requires
     add-count
     loop-less
     loop-again
     shared-slice-read-wide
     wide-requires
-    returns-3)
+    returns-4)

@@ -1,112 +1,118 @@
--- The loop's invariant (`Looking`): the fields still to come hold a high register where the whole record does. A turn takes the last digit of the kinds and
--- looks at the field's first byte; it stops at a high register, or when no digit is left.
-use Prim.Native.Nat.{ℕ, _+_, _/_, _%_}
-use mathlib.Core.List.{List}
-use mathlib.Core.Path.{_≡_, refl, sym, _∙_, ap}
+-- A law of `Rows` for each byte that is looked at and for each return. Past each test its outcome is kept for the later ones.
+use Prim.Native.Nat.{_+_, _<_}
+use mathlib.Core.Path.{_∙_, ap}
 use native.Mathlib.Omega.{arith}
+use lib.Dec.{leb}
+use lib.ListN.{getD}
 use borrow.Author.Needs.{needs}
-use lib.ListN.{getD, drop}
-use lib.Seq.{drop-drop}
-use Rattle.takes.specs.Operations.{Kind, kindsOf}
-use Rattle.takes.specs.Reading.{operationByte, fieldValues, highRegister}
-use Rattle.takes.specs.Inner.{highAt}
-use Rattle.takes.proofs.Rows.{Looking, looking-byte, looking-stop, looking-turn, looking-end}
+use Rattle.heap.specs.Registers.{registerCount}
+use Rattle.takes.proofs.Rows.{Tested, first-inside, first-high, no-second, second-inside, second-high, no-third, third-inside, third-tells}
 use Rattle.takes.proofs.reader.high_in_file.Statement.{statement}
 use Rattle.takes.proofs.reader.high_in_file.Tie as tie
 
--- the record's kinds
-abbrev kindsAt : List ℕ → ℕ → List Kind
-kindsAt file at = kindsOf (operationByte (drop at file))
+tested : (c : tie.Start) → Tested (c .args .file .now) (c .args .at) (c .args .kinds)
+tested c = record { listed = c .pre .0; coded = c .pre .1 .0; fit = c .pre .1 .1 }
 
-abbrev Inv-loop : tie.InvT-loop
-Inv-loop file at kinds left₀ place₀ left place = Looking file (highRegister (kindsAt file at) (fieldValues (drop at file))) left place
+add-wide : tie.Need-add-wide
+add-wide c = omega (arith, first-inside (tested (c .before)))
 
-abbrev μ-loop : tie.MeasureT-loop
-μ-loop file at kinds left₀ place₀ left place = left
+shared-slice-read-wide : tie.Need-shared-slice-read-wide
+shared-slice-read-wide c = first-inside (tested (c .before .before))
 
-add-place : tie.Need-add-place Inv-loop μ-loop
-add-place c = omega (arith, c .before .pre .1)
-
-loop-holds : tie.Need-loop-holds Inv-loop μ-loop
-loop-holds c =
-    let s = c .before in
-    let f : List ℕ = s .args .file .now in
-    record { rest = kindsAt f (s .args .at); coded = s .pre .0; inside = s .pre .1; same = rw (← drop-drop 2 (s .args .at) f) refl }
-
-shared-slice-read-wide : tie.Need-shared-slice-read-wide Inv-loop μ-loop
-shared-slice-read-wide c = looking-byte (c .before .before .loop .inv) (c .before .loop-test .taken)
-
-wide-requires : tie.Need-wide-requires Inv-loop μ-loop
+wide-requires : tie.Need-wide-requires
 wide-requires c κs = search needs
 
-is-high-requires : tie.Need-is-high-requires Inv-loop μ-loop
-is-high-requires c κs = search needs
+-- the first register is read
+module _ (c : tie.After-wide) where
+  abbrev start : tie.Start
+  start = c .before .before .before
 
--- what is known of a field once its byte was looked at
-module _ (c : tie.After-is-high Inv-loop μ-loop) where
-  abbrev turn : tie.In-loop Inv-loop μ-loop
-  turn = c .before .before .before
+returns : tie.Need-returns
+returns c = let f = c .before in first-high (tested (start f)) (omega (arith, f .wide .ensures, c .if1 .taken))
 
-  abbrev head : tie.At-loop Inv-loop μ-loop
-  head = turn .before
+-- it is not high
+module _ (c : tie.Else1) where
+  abbrev begun : tie.Start
+  begun = start (c .before)
 
-  told : c .is-high .result ≡ highAt (head .loop .left % 16) (getD (head .before .before .args .file .now) (head .loop .place) 0)
-  told = c .is-high .ensures ∙ ap (highAt (head .loop .left % 16)) (c .before .wide .ensures)
+  low : getD (begun .args .file .now) (begun .args .at + 2) 0 < registerCount
+  low = omega (arith, c .before .wide .ensures, c .if1 .left)
 
-returns : tie.Need-returns Inv-loop μ-loop
-returns c = let h = c .before in looking-stop (head h .loop .inv) (turn h .loop-test .taken) (sym (c .if1 .taken) ∙ told h)
+returns-2 : tie.Need-returns-2
+returns-2 c = let f = c .before in no-second (tested (begun f)) (low f) (c .if2 .taken)
 
-size-of-requires : tie.Need-size-of-requires Inv-loop μ-loop
-size-of-requires c κs = search needs
+add-wide-2 : tie.Need-add-wide-2
+add-wide-2 c = let f = c .before in omega (arith, second-inside (tested (begun f)) (low f) (c .if2 .left))
 
--- the field is no high register, and its size is known: the fields after it are still to come
-module _ (c : tie.After-size-of Inv-loop μ-loop) where
-  abbrev looked : tie.After-is-high Inv-loop μ-loop
-  looked = c .before .before
+shared-slice-read-wide-2 : tie.Need-shared-slice-read-wide-2
+shared-slice-read-wide-2 c = let e = c .before in let f = e .before in second-inside (tested (begun f)) (low f) (e .if2 .left)
 
-  abbrev here : tie.At-loop Inv-loop μ-loop
-  here = head looked
+wide-requires-2 : tie.Need-wide-requires-2
+wide-requires-2 c κs = search needs
 
-  abbrev entry : tie.Start Inv-loop μ-loop
-  entry = here .before .before
+-- the second register is read
+module _ (c : tie.After-wide2) where
+  abbrev two : tie.Else2
+  two = c .before .before
 
-  abbrev bytes : List ℕ
-  bytes = entry .args .file .now
+  abbrev one : tie.Else1
+  one = two .before
 
-  abbrev at : ℕ
-  at = entry .args .at
+returns-3 : tie.Need-returns-3
+returns-3 c =
+    let f = c .before in
+    second-high (tested (begun (one f))) (low (one f)) (two f .if2 .left) (omega (arith, f .wide2 .ensures, c .if3 .taken))
 
-  turned : Looking bytes (highRegister (kindsAt bytes at) (fieldValues (drop at bytes))) (here .loop .left / 16) (here .loop .place + c .size-of .result)
-  turned =
-      let low = sym (c .before .if1 .left) ∙ told looked in
-      looking-turn (here .loop .inv) (turn looked .loop-test .taken) (c .size-of .result) (c .size-of .ensures) low
+-- it is not high either
+module _ (c : tie.Else3) where
+  abbrev first : tie.Else1
+  first = one (c .before)
 
-add-place-2 : tie.Need-add-place-2 Inv-loop μ-loop
-add-place-2 c = omega (arith, turned c)
+  abbrev second : tie.Else2
+  second = two (c .before)
 
-loop-less : tie.Need-loop-less Inv-loop μ-loop
-loop-less c = omega arith
+  low-2 : getD (begun first .args .file .now) (begun first .args .at + 3) 0 < registerCount
+  low-2 = omega (arith, c .before .wide2 .ensures, c .if3 .left)
 
-loop-again : tie.Need-loop-again Inv-loop μ-loop
-loop-again c = turned c
+returns-4 : tie.Need-returns-4
+returns-4 c = let f = c .before in no-third (tested (begun (first f))) (low (first f)) (second f .if2 .left) (low-2 f) (c .if4 .taken)
 
-returns-2 : tie.Need-returns-2 Inv-loop μ-loop
-returns-2 c = looking-end (c .before .loop .inv) (c .loop-test .left)
+add-wide-3 : tie.Need-add-wide-3
+add-wide-3 c =
+    let f = c .before in
+    omega (arith, third-inside (tested (begun (first f))) (low (first f)) (second f .if2 .left) (low-2 f) (c .if4 .left))
+
+shared-slice-read-wide-3 : tie.Need-shared-slice-read-wide-3
+shared-slice-read-wide-3 c =
+    let e = c .before in
+    let f = e .before in
+    third-inside (tested (begun (first f))) (low (first f)) (second f .if2 .left) (low-2 f) (e .if4 .left)
+
+wide-requires-3 : tie.Need-wide-requires-3
+wide-requires-3 c κs = search needs
+
+returns-5 : tie.Need-returns-5
+returns-5 c =
+    let e = c .before .before in
+    let f = e .before in
+    ap (leb registerCount) (c .wide3 .ensures)
+    ∙ third-tells (tested (begun (first f))) (low (first f)) (second f .if2 .left) (low-2 f) (e .if4 .left)
 
 pub high-in-file-spec : {M : Type 1} → statement M
 high-in-file-spec =
     tie.close
     (tie.spec
-    Inv-loop
-    μ-loop
-    add-place
-    loop-holds
+    add-wide
     shared-slice-read-wide
     wide-requires
-    is-high-requires
     returns
-    size-of-requires
-    add-place-2
-    loop-less
-    loop-again
-    returns-2)
+    returns-2
+    add-wide-2
+    shared-slice-read-wide-2
+    wide-requires-2
+    returns-3
+    returns-4
+    add-wide-3
+    shared-slice-read-wide-3
+    wide-requires-3
+    returns-5)

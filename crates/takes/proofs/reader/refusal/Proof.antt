@@ -5,7 +5,7 @@ use mathlib.Core.Path.{_≡_, _∙_, sym}
 use lib.ListN.{getD}
 use borrow.Author.Needs.{needs}
 use Rattle.takes.proofs.Readings.{the-number, past-end, zero-length, too-few}
-use Rattle.takes.proofs.Readings.{Counted, unlisted, kinds-at, wrong-length, fields-fit, high-at, good-at}
+use Rattle.takes.proofs.Readings.{Counted, unlisted, known-at, kinds-at, wrong-length, fields-fit, high-at, good-at}
 use Rattle.takes.proofs.reader.refusal.Statement.{statement}
 use Rattle.takes.proofs.reader.refusal.Tie as tie
 
@@ -95,7 +95,9 @@ module _ (c : tie.Else5) where
   right = sym (c .before .wide .ensures) ∙ c .if5 .left
 
 high-in-file-requires : tie.Need-high-in-file-requires
-high-in-file-requires c κs = (kinds-at (counted (looked c)) (some-row c), fields-fit (counted (looked c)) (some-row c) (right c))
+high-in-file-requires c κs =
+    let k = counted (looked c) in
+    (known-at k (some-row c), (kinds-at k (some-row c), fields-fit k (some-row c) (right c)))
 
 returns-6 : tie.Need-returns-6
 returns-6 c =

@@ -7,7 +7,7 @@ returns : tie.Need-returns
 returns c = rw (c .if1 .taken)
 
 returns-2 : tie.Need-returns-2
-returns-2 c = rw (ne-eqb (c .before .args .kind) 1 (c .if1 .left))
+returns-2 c = rw (ne-eqb (c .before .args .kind) 9 (c .if1 .left))
 
 pub is-high-spec : {M : Type 1} → statement M
 is-high-spec = tie.close (tie.spec returns returns-2)

@@ -1,17 +1,16 @@
 -- An arm for each operation n: what it needs of the file is what the row of n asks (`fits`), and its record is that of the row (`gives`, with a law for each
--- operation). The last arm is left to unlock: an operation of the table that is none of those before.
+-- operation). The last arm is left to set: an operation of the table that is none of those before.
 use Prim.Native.Nat.{ℕ, _+_, _≤_, _<_}
 use mathlib.Core.Path.{_≡_, sym, _∙_, ap}
 use mathlib.Core.List.{List}
 use native.Mathlib.Omega.{arith}
 use lib.ListN.{length}
-use Rattle.heap.specs.OperationNumbers.{lastOperation}
-use Rattle.takes.specs.Operations.{kindsOf, sizes}
-use Rattle.takes.specs.Inner.{rows, getAt, giveAt, stepAt, readFieldsAt, writeAt, leftAt, copyAt, fillAt, lockAt, unlockAt}
+use Rattle.takes.specs.Operations.{lastInTable, kindsOf, sizes}
+use Rattle.takes.specs.Inner.{rows, getAt, giveAt, stepAt, readFieldsAt, writeAt, leftAt, copyAt, fillAt, lockAt, unlockAt, againAt, setAt}
 use Rattle.takes.specs.declared.Record.{Record}
 use Rattle.common.proofs.Arms.{above-all}
 use Rattle.takes.proofs.Operations.{in-table}
-use Rattle.takes.proofs.Records.{made, get-is, give-is, step-is, read-is, write-is, left-is, copy-is, fill-is, lock-is, unlock-is}
+use Rattle.takes.proofs.Records.{made, get-is, give-is, step-is, read-is, write-is, left-is, copy-is, fill-is, lock-is, unlock-is, again-is, set-is}
 use Rattle.takes.proofs.unchecked.record_at.Statement.{statement}
 use Rattle.takes.proofs.unchecked.record_at.Tie as tie
 
@@ -25,13 +24,13 @@ module _ (s : tie.Start) (n : ℕ) (is : s .args .op ≡ n) where
   gives place law p = p ∙ (law _ _ ∙ ap (made (s .args .file .now) (s .args .at)) (sym is))
 
 -- the operation that is left: in the table, and above all of those before
-only : {op : ℕ} → 9 < op → op < rows → op ≡ lastOperation
+only : {op : ℕ} → 11 < op → op < rows → op ≡ lastInTable
 only h k = omega arith
 
-last : (c : tie.At-match-rest) → c .before .before .args .op ≡ lastOperation
+last : (c : tie.At-match-rest) → c .before .before .args .op ≡ lastInTable
 last c =
     let t = in-table (c .before .before .args .op) (c .before .before .pre .0) in
-    only (above-all (c .before .before .args .op) 9 (c .match .rest) (t .above)) (t .below)
+    only (above-all (c .before .before .args .op) 11 (c .match .rest) (t .above)) (t .below)
 
 pub record-at-spec : {M : Type 1} → statement M
 unfolding kindsOf
@@ -47,7 +46,9 @@ record-at-spec =
     (λ c κs. fits (c .before .before) 7 (c .match .keys7))
     (λ c κs. fits (c .before .before) 8 (c .match .keys8))
     (λ c κs. fits (c .before .before) 9 (c .match .keys9))
-    (λ c κs. fits (c .before .before) 10 (last c))
+    (λ c κs. fits (c .before .before) 10 (c .match .keys10))
+    (λ c κs. fits (c .before .before) 11 (c .match .keys11))
+    (λ c κs. fits (c .before .before) 12 (last c))
     (λ c. gives (c .before .before .before) 1 (c .before .match .keys1) getAt get-is (c .get-at .ensures))
     (λ c. gives (c .before .before .before) 2 (c .before .match .keys2) giveAt give-is (c .give-at .ensures))
     (λ c. gives (c .before .before .before) 3 (c .before .match .keys3) stepAt step-is (c .step-at .ensures))
@@ -57,4 +58,6 @@ record-at-spec =
     (λ c. gives (c .before .before .before) 7 (c .before .match .keys7) copyAt copy-is (c .copy-at .ensures))
     (λ c. gives (c .before .before .before) 8 (c .before .match .keys8) fillAt fill-is (c .fill-at .ensures))
     (λ c. gives (c .before .before .before) 9 (c .before .match .keys9) lockAt lock-is (c .lock-at .ensures))
-    (λ c. gives (c .before .before .before) 10 (last (c .before)) unlockAt unlock-is (c .unlock-at .ensures)))
+    (λ c. gives (c .before .before .before) 10 (c .before .match .keys10) unlockAt unlock-is (c .unlock-at .ensures))
+    (λ c. gives (c .before .before .before) 11 (c .before .match .keys11) againAt again-is (c .again-at .ensures))
+    (λ c. gives (c .before .before .before) 12 (last (c .before)) setAt set-is (c .set-at .ensures)))

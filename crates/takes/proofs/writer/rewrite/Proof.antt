@@ -63,7 +63,7 @@ module _ (c : tie.Else2 Inv-loop μ-loop) where
   size = size-judged file-in (judged .judge .result) (judged .judge .ensures) (c .before .if1 .left)
 
   head : Head file-in
-  head = head-accepted file-in (file-accepted file-in good .0)
+  head = head-accepted file-in (file-accepted file-in good .head)
 
   bytes : Bytes file-in
   bytes i = omega (arith, judged .before .before .shared-slice-known .given i)
