@@ -6,7 +6,7 @@ use mathlib.Core.Bool.{Bool, true, false, not, cond}
 use mathlib.Core.List.{List, [], _∷_}
 use native.Mathlib.Omega.{arith}
 use native.Mathlib.Decide.{decLt}
-use borrow.Author.Tests.{leb-true, eqb-true, eqb-false, le-leb, eq-eqb, not-false}
+use borrow.Author.Tests.{leb-true, eqb-true, eqb-false, ne-eqb, le-leb, eq-eqb, not-false}
 use lib.Dec.{eqb, leb}
 use lib.ListN.{length, replicate, length-replicate}
 use Rattle.common.specs.Refusals.{Refusal, _when_, first}
@@ -107,6 +107,13 @@ pub refused-step : (t m : ℕ) (c : Call) (a tab : List ℕ) {k : ℕ} {r : Answ
     → r ≡ answer k 0 → outcome r a tab ≡ heapStep t m c (heapOf a tab)
 unfolding heapStep
 refused-step t m c a tab {k = k} q n e = rw (e, ← q) (settled-refused k (heapOf a tab) _ _ n)
+
+-- a call on a sound heap that its arguments refuse
+pub argument-refused : {t m : ℕ} (c : Call) {a tab : List ℕ} {k : ℕ} {r : Answer} → Sound t m a tab → k ≡ first (argumentRules m c) → (k ≡ 0 → ⊥)
+    → r ≡ answer k 0 → outcome r a tab ≡ heapStep t m c (heapOf a tab)
+argument-refused {t = t} {m = m} c {a = a} {tab = tab} {k = k} s q n e =
+    let x : k ≡ first (rules c (heapView t m (heapOf a tab))) = rw (rules-first, sizes-right t a tab (sound-sized t a tab s), ← q, ne-eqb k 0 n) in
+    refused-step t m c a tab x n e
 
 module _ (t m : ℕ) (c : Call) (a tab : List ℕ) (z : Ready t m c a tab) where
   abbrev w : View

@@ -1,10 +1,12 @@
 // The calls once their input has been judged: the lengths fit, the table is undamaged, the arguments are in range. What is left to refuse
-// depends on the blocks and the mark (21, 27, 22, 13, 23 to 25, 28). A slot has 2^t bytes. A run calls `call`, and never scans the table.
+// depends on the blocks and the mark (21, 27, 22, 13, 23 to 25, 28). A slot has 2^t bytes. A run makes its calls by `call`, a
+// replay one by one, by `any_get`, `any_read` and `any_write` those whose arguments may refuse them; neither ever scans the table.
 use crate::Answer;
 use crate::Call;
 use crate::answers::accepted;
 use crate::answers::refused;
 use crate::refusals::Located;
+use crate::refusals::arguments;
 use crate::refusals::locate;
 use crate::refusals::locate_plain;
 use crate::refusals::number_of;
@@ -238,21 +240,53 @@ pub fn check(arena: &[u8], table: &[u8], t: u32, m: u32, p: u32, i: u32) -> Answ
     }
 }
 
-// Any call, its arguments judged too: only lengths and damage are taken for granted.
+// A get of any size, and a read and a write of any width and value: their arguments are judged too. No other call has arguments that refuse it.
+pub fn any_get(arena: &mut [u8], table: &mut [u8], t: u32, m: u32, n: u32) -> Answer
+    requires { ⌜ Sound t m (now arena) (now table) ⌝ }
+    ensures { λ r. ⌜ outcome r (now (arena .exit)) (now (table .exit)) ≡ heapStep t m (Call.Get n) (heapOf (now (arena .entry)) (now (table .entry))) ⌝ }
+{
+    let number = arguments(m, Call::Get(n));
+    if number != 0 {
+        return refused(number);
+    }
+    get(arena, table, t, m, n)
+}
+
+pub fn any_read(arena: &[u8], table: &[u8], t: u32, m: u32, p: u32, w: u8) -> Answer
+    requires { ⌜ Sound t m (now arena) (now table) ⌝ }
+    ensures { λ r. ⌜ outcome r (now (arena .entry)) (now (table .entry)) ≡ heapStep t m (Call.Read p w) (heapOf (now (arena .entry)) (now (table .entry))) ⌝ }
+{
+    let number = arguments(m, Call::Read(p, w));
+    if number != 0 {
+        return refused(number);
+    }
+    read(arena, table, t, m, p, w)
+}
+
+pub fn any_write(arena: &mut [u8], table: &[u8], t: u32, m: u32, p: u32, w: u8, v: u32) -> Answer
+    requires { ⌜ Sound t m (now arena) (now table) ⌝ }
+    ensures { λ r. ⌜ outcome r (now (arena .exit)) (now (table .entry))
+        ≡ heapStep t m (Call.Write p w v) (heapOf (now (arena .entry)) (now (table .entry))) ⌝ }
+{
+    let number = arguments(m, Call::Write(p, w, v));
+    if number != 0 {
+        return refused(number);
+    }
+    write(arena, table, t, m, p, w, v)
+}
+
+// Any call, its arguments judged too: only lengths and damage are taken for granted. The run is its one caller, and so the compiler puts it into the run's
+// loop; with a second caller it would be handed each call in memory.
 pub fn call(arena: &mut [u8], table: &mut [u8], t: u32, m: u32, c: Call) -> Answer
     requires { ⌜ Sound t m (now arena) (now table) ⌝ }
     ensures { λ r. ⌜ outcome r (now (arena .exit)) (now (table .exit)) ≡ heapStep t m c (heapOf (now (arena .entry)) (now (table .entry))) ⌝ }
 {
-    let n = crate::refusals::arguments(m, c);
-    if n != 0 {
-        return refused(n);
-    }
     match c {
-        Call::Get(n) => get(arena, table, t, m, n),
+        Call::Get(n) => any_get(arena, table, t, m, n),
         Call::Give(p) => give(arena, table, t, m, p),
         Call::Step(p, i) => step(arena, table, t, m, p, i),
-        Call::Read(p, w) => read(arena, table, t, m, p, w),
-        Call::Write(p, w, v) => write(arena, table, t, m, p, w, v),
+        Call::Read(p, w) => any_read(arena, table, t, m, p, w),
+        Call::Write(p, w, v) => any_write(arena, table, t, m, p, w, v),
         Call::Left(p) => left(arena, table, t, m, p),
         Call::Copy(p, q, n) => copy(arena, table, t, m, p, q, n),
         Call::Fill(p, v, n) => fill(arena, table, t, m, p, v, n),

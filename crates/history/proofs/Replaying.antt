@@ -115,14 +115,13 @@ module _ {m : ℕ} {calls out₀ a tab out : List ℕ} {i : ℕ} (g : Replays m 
   pub replays-sound : Sound slotOrder m a tab
   replays-sound = agree-sound (g .orders) (heapOf a tab) (g .ledger) (g .agree)
 
-  pub replays-step : i < callCount calls → (c : Call) → c ≡ callAt calls (i * callLength) → (x : Answer) (a′ tab′ out′ : List ℕ)
-      → outcome x a′ tab′ ≡ heapStep slotOrder m c (heapOf a tab) → out′ ≡ over out (i * answerLength) (answerBytes x) → length out′ ≡ length out
-      → Replays m calls out₀ a′ tab′ out′ (i + 1)
-  replays-step l c p x a′ tab′ out′ q u k =
+  pub replays-step : i < callCount calls → (x : Answer) (a′ tab′ out′ : List ℕ)
+      → outcome x a′ tab′ ≡ heapStep slotOrder m (callAt calls (i * callLength)) (heapOf a tab)
+      → out′ ≡ over out (i * answerLength) (answerBytes x) → length out′ ≡ length out → Replays m calls out₀ a′ tab′ out′ (i + 1)
+  replays-step l x a′ tab′ out′ q u k =
+      let c : Call = callAt calls (i * callLength) in
       let s = step-same (g .orders) (heapOf a tab) (g .ledger) (g .agree) c in
       let cs : List Call = callsFrom calls ((i + 1) * callLength) (callCount calls - (i + 1)) in
-      let here : callsFrom calls (i * callLength) (callCount calls - i) ≡ c ∷ cs =
-      calls-here calls (callCount calls) i l ∙ ap (λ (d : Call). d ∷ cs) (sym p) in
       let o = stepOf m c (g .ledger) in
       let y : x ≡ o .answer = ap (λ (o : Outcome Heap). o .answer) q ∙ s .answer in
       let place : (i + 1) * answerLength ≡ i * answerLength + answerLength = omega arith in
@@ -136,7 +135,7 @@ module _ {m : ℕ} {calls out₀ a tab out : List ℕ} {i : ℕ} (g : Replays m 
         rest =
             rw (u, y, place)
             (played-next m c cs (i * answerLength) (g .ledger) out (omega (arith, g .room))
-            ∙ ap (λ (ds : List Call). played m ds (i * answerLength) (g .ledger) out) (sym here) ∙ g .rest);
+            ∙ ap (λ (ds : List Call). played m ds (i * answerLength) (g .ledger) out) (sym (calls-here calls (callCount calls) i l)) ∙ g .rest);
       }
 
   pub replays-end : callCount calls ≤ i → replayed 0 a tab out ≡ played m (callsOf calls) 0 (emptyLedger m) out₀

@@ -1,22 +1,27 @@
 // A list of calls from a fresh heap, replayed.
-use heap::Call;
+use heap::Answer;
 use heap::SLOT_ORDER;
 use heap::answers::ANSWER_LENGTH;
 use heap::operations;
+use heap::unchecked;
 ghost use mathlib.Core.Path.{_≡_};
 ghost use Prim.Native.Nat.{_+_, _≤_};
 ghost use lib.ListN.{length};
 ghost use Rattle.common.specs.Refusals.{first};
-ghost use Rattle.heap.specs.Heaps.{heapOf};
+ghost use Rattle.heap.specs.Views.{slotOrder};
+ghost use Rattle.heap.specs.Heaps.{heapOf, heapStep, outcome};
+ghost use Rattle.heap.specs.Inner.{Sound};
 ghost use Rattle.history.specs.Replaying.{callLength, callAt, callCount, unknownFrom, replayRules, replayed, replayOf};
 
 // Bytes of a call: its operation, a byte, three numbers of four bytes.
 const CALL_LENGTH: usize = 14;
 
-// The call in the CALL_LENGTH bytes from `at` on.
-fn call_at(s: &[u8], at: usize) -> Call
+// Makes the call in the CALL_LENGTH bytes from `at` on. Each arm calls its own inner function: why not `unchecked::call`, is said there.
+fn make_call_at(arena: &mut [u8], table: &mut [u8], m: u32, s: &[u8], at: usize) -> Answer
+    requires { ⌜ Sound slotOrder m (now arena) (now table) ⌝ }
     requires { ⌜ at + callLength ≤ length (now s) ⌝ }
-    ensures { λ r. ⌜ r ≡ callAt (now (s .entry)) at ⌝ }
+    ensures { λ r. ⌜ outcome r (now (arena .exit)) (now (table .exit))
+        ≡ heapStep slotOrder m (callAt (now (s .entry)) at) (heapOf (now (arena .entry)) (now (table .entry))) ⌝ }
 {
     let op = s[at];
     let x = s[at + 1];
@@ -24,16 +29,16 @@ fn call_at(s: &[u8], at: usize) -> Call
     let b = common::read_number(s, at + 6, 4);
     let c = common::read_number(s, at + 10, 4);
     match op {
-        1 => Call::Get(a),
-        2 => Call::Give(a),
-        3 => Call::Step(a, b),
-        4 => Call::Read(a, x),
-        5 => Call::Write(a, x, b),
-        6 => Call::Left(a),
-        7 => Call::Copy(a, b, c),
-        8 => Call::Fill(a, x, c),
-        9 => Call::SetLock(a, true),
-        _ => Call::SetLock(a, false),
+        1 => unchecked::any_get(arena, table, SLOT_ORDER, m, a),
+        2 => unchecked::give(arena, table, SLOT_ORDER, m, a),
+        3 => unchecked::step(arena, table, SLOT_ORDER, m, a, b),
+        4 => unchecked::any_read(arena, table, SLOT_ORDER, m, a, x),
+        5 => unchecked::any_write(arena, table, SLOT_ORDER, m, a, x, b),
+        6 => unchecked::left(arena, table, SLOT_ORDER, m, a),
+        7 => unchecked::copy(arena, table, SLOT_ORDER, m, a, b, c),
+        8 => unchecked::fill(arena, table, SLOT_ORDER, m, a, x, c),
+        9 => unchecked::set_lock(arena, table, SLOT_ORDER, m, a, true),
+        _ => unchecked::set_lock(arena, table, SLOT_ORDER, m, a, false),
     }
 }
 
@@ -86,13 +91,7 @@ pub fn replay(arena: &mut [u8], table: &mut [u8], calls: &[u8], out: &mut [u8]) 
     let n = calls.len() / CALL_LENGTH;
     let mut i = 0usize;
     while i < n {
-        let answer = heap::unchecked::call(
-            arena,
-            table,
-            SLOT_ORDER,
-            m,
-            call_at(calls, i * CALL_LENGTH),
-        );
+        let answer = make_call_at(arena, table, m, calls, i * CALL_LENGTH);
         heap::answers::store(out, i * ANSWER_LENGTH, answer);
         i += 1;
     }

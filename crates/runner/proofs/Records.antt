@@ -6,15 +6,19 @@ use mathlib.Core.List.{List}
 use mathlib.Core.Option.{Option, none, some}
 use native.Mathlib.Omega.{arith}
 use lib.Dec.{eqb}
-use lib.ListN.{length, set}
+use lib.ListN.{length, set, drop}
 use lib.Seq.{set-out}
 use borrow.Author.Tests.{leb-false}
 use Rattle.blocks.specs.Orders.{orderOf}
 use Rattle.takes.specs.Operations.{kindsOf}
 use Rattle.takes.specs.Records.{operation, fields}
-use Rattle.takes.specs.Reading.{highRegister}
+use Rattle.takes.specs.Reading.{highRegister, readAt}
+use Rattle.takes.specs.Inner.{recordThere}
 use Rattle.takes.specs.Files.{strays}
 use Rattle.takes.proofs.Fields.{low-field}
+use Rattle.takes.proofs.Readings.{good-record}
+use Rattle.takes.proofs.Walks.{found-next}
+use Rattle.takes.proofs.RoundTrips.{read-low}
 use Rattle.takes.specs.declared.Record.{Record}
 use Rattle.takes.specs.declared.Record.the-variants.{Get as get, Give as give, Step as step, Read as read}
 use Rattle.takes.specs.declared.Record.the-variants.{Write as write, Left as left, Copy as copy, Fill as fill, Lock as lock, Unlock as unlock}
@@ -30,11 +34,11 @@ use Rattle.history.proofs.Soundness.{SoundHeap, call-sound}
 use Rattle.runner.specs.Decoding.{decoded, actionOf, registersAfter, dueAfter}
 use Rattle.runner.specs.Machines.{acted, stepOf}
 use Rattle.runner.specs.Inner.{machineOf, actedIn, noRegister, indexOf, LowRegisters, storedIn}
-use Rattle.runner.specs.declared.decoding.Action.{Action}
-use Rattle.runner.specs.declared.decoding.Action.the-variants.{Makes, Gives, GoesBack}
+use Rattle.runner.specs.declared.actions.Action.{Action}
+use Rattle.runner.specs.declared.actions.Action.the-variants.{Makes, Gives, GoesBack}
 
 -- a register that a record of the file takes from is one of the sixteen
-pub low-registers : (r : Record) → highRegister (kindsOf (operation r)) (fields r) ≡ false → LowRegisters r
+low-registers : (r : Record) → highRegister (kindsOf (operation r)) (fields r) ≡ false → LowRegisters r
 unfolding kindsOf
 low-registers (get d n) h = (omega arith, omega arith)
 low-registers (give a) h = (low-field (kindsOf 2) (fields (give a)) 0 h refl, omega arith)
@@ -48,6 +52,12 @@ low-registers (lock a) h = (low-field (kindsOf 9) (fields (lock a)) 0 h refl, om
 low-registers (unlock a) h = (low-field (kindsOf 10) (fields (unlock a)) 0 h refl, omega arith)
 low-registers (again d k) h = (low-field (kindsOf 11) (fields (again d k)) 0 h refl, omega arith)
 low-registers (assign d n) h = (omega arith, omega arith)
+
+-- a record that was judged and found good has such registers alone
+pub good-low : (file : List ℕ) (at : ℕ) → readAt file at .number ≡ 0 → LowRegisters (recordThere file at)
+good-low file at good =
+    let n = found-next file at good (recordThere file at) (readAt file at .next) (good-record file at good (recordThere file at) refl) refl in
+    low-registers (recordThere file at) (rw (n .the-record) (read-low (drop at file) (n .whole)))
 
 -- a value put in no register
 put-none : (rs : List ℕ) (v : ℕ) → length rs ≡ registerCount → set rs noRegister v ≡ rs

@@ -17,7 +17,6 @@ use Rattle.takes.specs.Reading.{readAt}
 use Rattle.takes.specs.Files.{Walk, ended, walkFrom, headLength, strays, strayFrom, fileNumber, recordsOf}
 use Rattle.takes.specs.declared.Record.{Record}
 use Rattle.takes.proofs.Walks.{Next, found-next, from-end, accepted-here}
-use Rattle.takes.proofs.RoundTrips.{read-low}
 use Rattle.heap.specs.Views.{slotOrder}
 use Rattle.heap.specs.Effects.{Outcome}
 use Rattle.heap.specs.Heaps.{Heap, heapOf, heapFresh, freshHeap, outcome}
@@ -31,10 +30,10 @@ use Rattle.heap.specs.Registers.{registerCount, registersAtFirst, held}
 use Rattle.runner.specs.Decoding.{decoded, actionOf, dueAfter, registersAfter}
 use Rattle.runner.specs.Machines.{Machine, machineAtFirst, stepOf, recordAt, noStep, carryOut}
 use Rattle.runner.specs.TakeRuns.{RunOutcome, ranOut}
-use Rattle.runner.specs.Inner.{placeCount, machineOf, runFrom, Runnable, actedIn, LowRegisters}
-use Rattle.runner.specs.declared.decoding.Action.{Action}
+use Rattle.runner.specs.Inner.{placeCount, machineOf, runFrom, Runnable, actedIn}
+use Rattle.runner.specs.declared.actions.Action.{Action}
 use Rattle.runner.proofs.Files.{accepted-file, few-records}
-use Rattle.runner.proofs.Records.{low-registers, due-next, acted-sound, one-step}
+use Rattle.runner.proofs.Records.{due-next, acted-sound, one-step}
 use Rattle.runner.proofs.Steps.{record-first, no-record, straight-first, none-due, run-next, run-over}
 
 -- the lengths that the run may rely on
@@ -78,9 +77,6 @@ module _ {file : List ℕ} {at i : ℕ} (p : Placed file at i) (more : i < lengt
           inside = found .inside;
           to-come = sym (ap (drop 1) here) ∙ drop-drop 1 i (recordsOf file);
         }
-
-    pub placed-low : LowRegisters r
-    placed-low = low-registers r (rw (found .the-record) (read-low (drop at file) (found .whole)))
 
     pub placed-straight : strayFrom 0 (recordsOf file) ≡ false → strays i r ≡ false
     placed-straight b = rw zero-add at (straight-first (recordsOf file) 0 i r (walkFrom file next .records) b here)

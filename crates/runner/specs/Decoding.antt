@@ -11,8 +11,8 @@ use Rattle.takes.specs.declared.Record.the-variants.{Again as again, Set as ass
 use Rattle.heap.specs.declared.Answer.{Answer}
 use Rattle.heap.specs.declared.Call.the-variants.{Get, Give, Step, Read, Write, Left, Copy, Fill, SetLock}
 use Rattle.heap.specs.Registers.{held, putWhere}
-use Rattle.runner.specs.declared.decoding.Action.{Action}
-use Rattle.runner.specs.declared.decoding.Action.the-variants.{Makes, Gives, GoesBack}
+use Rattle.runner.specs.declared.actions.Action.{Action}
+use Rattle.runner.specs.declared.actions.Action.the-variants.{Makes, Gives, GoesBack}
 
 -- What a record asks for: its registers a and b, 0 where it has none; what it does with their values p and q; and the register d that its value goes to. It
 -- makes a call, or gives a value without one, and with that it may go back to the record of an index.

@@ -19,9 +19,9 @@ use Rattle.heap.specs.Registers.{registerCount}
 use Rattle.runner.specs.Decoding.{decoded, actionOf}
 use Rattle.runner.specs.Machines.{Machine, isDue, carryOut}
 use Rattle.runner.specs.TakeRuns.{mostSteps, RunOutcome}
-use Rattle.runner.specs.declared.decoding.Issued.{Issued}
-use Rattle.runner.specs.declared.decoding.Action.{Action}
-use Rattle.runner.specs.declared.decoding.Action.the-variants.{Makes, Gives, GoesBack}
+use Rattle.runner.specs.declared.actions.Issued.{Issued}
+use Rattle.runner.specs.declared.actions.Action.{Action}
+use Rattle.runner.specs.declared.actions.Action.the-variants.{Makes, Gives, GoesBack}
 
 -- no file has more records: each takes two bytes or more, its length byte and its operation
 abbrev pub mostRecords : ℕ

@@ -11,8 +11,8 @@ use Rattle.heap.specs.Heaps.{Heap, heapCall, freshHeap}
 use Rattle.heap.specs.declared.Answer.{Answer}
 use Rattle.heap.specs.Registers.{registersAtFirst}
 use Rattle.runner.specs.Decoding.{actionOf, registersAfter, dueAfter}
-use Rattle.runner.specs.declared.decoding.Action.{Action}
-use Rattle.runner.specs.declared.decoding.Action.the-variants.{Makes, Gives, GoesBack}
+use Rattle.runner.specs.declared.actions.Action.{Action}
+use Rattle.runner.specs.declared.actions.Action.the-variants.{Makes, Gives, GoesBack}
 
 -- A run between two records: the index of the record that is due, the heap and the registers.
 pub record Machine : Type 0 where

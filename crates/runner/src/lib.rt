@@ -1,20 +1,17 @@
 // Runs a take: its file is judged, the heap made fresh, and the records that come due are carried out with sixteen registers.
-use decoding::Action;
+use actions::Action;
 use heap::Answer;
-use heap::Call;
 use heap::SLOT_ORDER;
 use heap::answers::ANSWER_LENGTH;
+use heap::answers::accepted;
 use heap::registers;
 use heap::registers::Registers;
 ghost use mathlib.Core.Path.{_≡_};
 ghost use mathlib.Core.Bool.{false};
-ghost use Prim.Native.Nat.{_+_, _≤_};
+ghost use Prim.Native.Nat.{_≤_};
 ghost use lib.ListN.{length};
-ghost use Rattle.common.specs.Bytes.{over};
 ghost use Rattle.heap.specs.Views.{slotOrder};
-ghost use Rattle.heap.specs.Heaps.{heapOf, outcome, heapStep};
-ghost use Rattle.heap.specs.Effects.{accepted};
-ghost use Rattle.heap.specs.Answers.{answerLength, answerBytes};
+ghost use Rattle.heap.specs.Heaps.{heapOf, outcome};
 ghost use Rattle.heap.specs.Inner.{Sound};
 ghost use Rattle.takes.specs.Files.{recordsOf};
 ghost use Rattle.heap.specs.Registers.{registersAtFirst};
@@ -22,7 +19,8 @@ ghost use Rattle.runner.specs.TakeRuns.{allowed, screenful, ranOut, runB
 ghost use Rattle.runner.specs.Budgets.{Counted};
 ghost use Rattle.runner.specs.Inner.{actedIn, Runnable};
 
-mod decoding;
+mod actions;
+mod issuing;
 
 // What a run returns: the number of its refusal, 0 for none, its registers, how many records it carried out, and whether it stopped with one still due.
 #[repr(C)]
@@ -77,55 +75,15 @@ fn allowed_by(budget: u32) -> u32
     }
 }
 
-// Makes a call, its answer stored from `place` on.
-fn make_call(
-    arena: &mut [u8],
-    table: &mut [u8],
-    answers: &mut [u8],
-    place: usize,
-    m: u32,
-    c: Call,
-) -> Answer
+// Does to the heap what one record does, and gives its answer.
+fn carry_out_one(arena: &mut [u8], table: &mut [u8], m: u32, action: Action) -> Answer
     requires { ⌜ Sound slotOrder m (now arena) (now table) ⌝ }
-    requires { ⌜ place + answerLength ≤ length (now answers) ⌝ }
-    ensures { λ r. ⌜ outcome r (now (arena .exit)) (now (table .exit)) ≡ heapStep slotOrder m c (heapOf (now (arena .entry)) (now (table .entry))) ⌝ }
-    ensures { λ r. ⌜ now (answers .exit) ≡ over (now (answers .entry)) place (answerBytes r) ⌝ }
-{
-    let answer = heap::unchecked::call(arena, table, SLOT_ORDER, m, c);
-    heap::answers::store(answers, place, answer);
-    answer
-}
-
-// The answer of a record that makes no call, stored from `place` on.
-fn give_value(answers: &mut [u8], place: usize, value: u32) -> Answer
-    requires { ⌜ place + answerLength ≤ length (now answers) ⌝ }
-    ensures { λ r. ⌜ r ≡ accepted value ⌝ }
-    ensures { λ r. ⌜ now (answers .exit) ≡ over (now (answers .entry)) place (answerBytes r) ⌝ }
-{
-    let answer = heap::answers::accepted(value);
-    heap::answers::store(answers, place, answer);
-    answer
-}
-
-// What one record does to the heap, its answer stored from `place` on. Each arm stores its own: with one store behind the match, a value without a call
-// went through memory and waited there.
-fn carry_out_one(
-    arena: &mut [u8],
-    table: &mut [u8],
-    answers: &mut [u8],
-    place: usize,
-    m: u32,
-    action: Action,
-) -> Answer
-    requires { ⌜ Sound slotOrder m (now arena) (now table) ⌝ }
-    requires { ⌜ place + answerLength ≤ length (now answers) ⌝ }
     ensures { λ r. ⌜ outcome r (now (arena .exit)) (now (table .exit)) ≡ actedIn m action (heapOf (now (arena .entry)) (now (table .entry))) ⌝ }
-    ensures { λ r. ⌜ now (answers .exit) ≡ over (now (answers .entry)) place (answerBytes r) ⌝ }
 {
     match action {
-        Action::Makes(c) => make_call(arena, table, answers, place, m, c),
-        Action::Gives(v) => give_value(answers, place, v),
-        Action::GoesBack(v, _) => give_value(answers, place, v),
+        Action::Makes(c) => heap::unchecked::call(arena, table, SLOT_ORDER, m, c),
+        Action::Gives(v) => accepted(v),
+        Action::GoesBack(v, _) => accepted(v),
     }
 }
 
@@ -152,15 +110,14 @@ fn carry_out(
     let mut done = 0u32;
     while done < most && due < count {
         let at = places[due] as usize;
-        let item = takes::unchecked::read(file, at);
         places[due + 1] = takes::unchecked::next(file, at) as u16;
-        let issued = decoding::issue(item, &registers.values);
+        let issued = issuing::issue(file, at, &registers.values);
         let action = issued.action;
-        let place = ANSWER_LENGTH * done as usize;
-        let answer = carry_out_one(arena, table, answers, place, m, action);
-        due = decoding::due_after(action, due);
+        let answer = carry_out_one(arena, table, m, action);
+        heap::answers::store(answers, ANSWER_LENGTH * done as usize, answer);
+        due = actions::due_after(action, due);
         done += 1;
-        let d = decoding::stored_in(issued.d, answer);
+        let d = actions::stored_in(issued.d, answer);
         if d < registers::COUNT {
             registers.values[d] = answer.value;
         }

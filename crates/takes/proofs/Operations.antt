@@ -1,5 +1,5 @@
 -- The operation table: what holds of each row holds of every operation, the code's table is computed from the rows, and what a row says.
-use Prim.Native.Nat.{ℕ, zero, suc, _+_, _*_, _/_, _%_, _≤_, _<_}
+use Prim.Native.Nat.{ℕ, zero, suc, _+_, _-_, _*_, _/_, _%_, _≤_, _<_}
 use mathlib.Core.Path.{_≡_, refl, sym, _∙_, ap, subst}
 use mathlib.Core.Bool.{Bool, true, false, _||_, _&&_, cond, false≢true}
 use mathlib.Core.List.{List, [], _∷_}
@@ -8,6 +8,7 @@ use native.Mathlib.Nat.{le-of-suc-le-suc, not-suc-le-zero}
 use lib.Dec.{eqb, leb, ltb}
 use lib.ListN.{length, getD}
 use borrow.Author.Tests.{eqb-true, ltb-true, ltb-false, leb-true, le-leb, lt-leb}
+use Rattle.common.proofs.Arms.{NoneOf, above-all}
 use Rattle.common.proofs.Booleans.{and-left, and-right}
 use Rattle.takes.specs.Operations.{Row, _has_, operations, lastInTable, knownIn, known, kindsOf, sizes, lengthOf}
 use Rattle.takes.specs.Inner.{rows, columns, digits, rowOf}
@@ -53,6 +54,10 @@ in-table op h =
       few = leb-true (length (kindsOf op)) columns (and-left (leb (length (kindsOf op)) columns) _ d);
       short = ltb-true (sizes (kindsOf op)) 255 (and-right (leb (length (kindsOf op)) columns) _ d);
     }
+
+-- the last arm of a match on the operations: of those in the table it is left with the last
+pub last-arm : (op : ℕ) → known op ≡ true → NoneOf op (lastInTable - 1) → op ≡ lastInTable
+last-arm op h o = let t = in-table op h in omega (arith, above-all op (lastInTable - 1) o (t .above), t .below)
 
 -- the values of g at the first n numbers
 abbrev tabulated : (ℕ → ℕ) → ℕ → List ℕ

@@ -13,9 +13,9 @@ use lib.Seq.{getD-drop, drop-drop}
 use borrow.Author.Tests.{lt-ltb, le-ltb, ltb-false, eq-eqb, ne-eqb, eqb-true, eqb-false}
 use Rattle.takes.specs.Operations.{known, kindsOf, sizes, lengthOf}
 use Rattle.takes.specs.Records.{recordOf}
-use Rattle.takes.specs.Reading.{lengthByte, operationByte, fieldValues, values, highRegister}
+use Rattle.takes.specs.Reading.{lengthByte, operationByte, fieldValues, highRegister}
 use Rattle.takes.specs.Reading.{Given, recordFound, recordRefused, readRules, readBytes, readAt}
-use Rattle.takes.specs.Inner.{digits, rowOf}
+use Rattle.takes.specs.Inner.{digits, rowOf, recordThere}
 use Rattle.takes.specs.declared.Record.{Record}
 use Rattle.takes.proofs.Operations.{row-none, row-known, row-length, row-kinds}
 use Rattle.common.proofs.Booleans.{or-false-left, or-false-right}
@@ -201,7 +201,7 @@ module _ (s : List ℕ) (at : ℕ) where
     pub good-inside : (n : ℕ) → n ≡ getD s at 0 → at + 1 + n ≤ length s
     good-inside n e = omega (arith, length-drop at s, good-whole .enough, good-whole .nonzero, length-at s at)
 
-    pub good-record : (r : Record) → r ≡ recordOf (getD s (at + 1) 0) (values (kindsOf (getD s (at + 1) 0)) (drop (at + 2) s)) → some r ≡ readAt s at .found
+    pub good-record : (r : Record) → r ≡ recordThere s at → some r ≡ readAt s at .found
     good-record r e = rw (e, good-reading, operation-at, drop-drop 2 at s)
 
     pub good-next : (n : ℕ) → n ≡ getD s at 0 → at + 1 + n ≡ readAt s at .next

@@ -13,7 +13,7 @@ use Rattle.takes.specs.Operations.{Kind, known, kindsOf, sizes, lengthOf
 use Rattle.takes.specs.Records.{operation, fields, recordOf}
 use Rattle.takes.specs.Reading.{values, highRegister}
 use Rattle.takes.specs.Inner.{byteAt, halfAt, wordAt, getAt, giveAt, stepAt, readFieldsAt, writeAt, leftAt, copyAt, fillAt, lockAt, unlockAt}
-use Rattle.takes.specs.Inner.{againAt, setAt}
+use Rattle.takes.specs.Inner.{againAt, setAt, recordFrom}
 use Rattle.takes.specs.Writing.{valueBytes, recordBytes, writeRecord}
 use Rattle.takes.specs.Inner.{columns, padded}
 use Rattle.takes.specs.declared.Record.{Record}
@@ -22,9 +22,6 @@ use Rattle.takes.proofs.Fields.{start, sizeOf, byte-is, number-is}
 
 -- A law for each operation: the record of its fields, which start at `at`, each taken from its own place in the file.
 module _ (s : List ℕ) (at : ℕ) where
-  abbrev pub made : ℕ → Record
-  made op = recordOf op (values (kindsOf op) (drop at s))
-
   -- a row's first field, a byte; its field k, where k bytes stand before it; and a number of four bytes or of two there
   byte-here : (ks : List Kind) → sizeOf ks 0 ≡ 1 → byteAt s at ≡ getD (values ks (drop at s)) 0 0
   byte-here ks e = byte-is s at ks 0 at (sym (add-zero at)) e
@@ -38,51 +35,51 @@ module _ (s : List ℕ) (at : ℕ) where
   half-from : (k : ℕ) (ks : List Kind) → start ks k ≡ k → sizeOf ks k ≡ 2 → halfAt s (at + k) ≡ getD (values ks (drop at s)) k 0
   half-from k ks p e = number-is s at ks k (at + k) (rw p) 2 e
 
-  pub get-is : getAt s at ≡ made 1
+  pub get-is : getAt s at ≡ recordFrom s at 1
   unfolding recordOf kindsOf
   get-is = rw (byte-here (kindsOf 1) refl, word-from 1 (kindsOf 1) refl refl)
 
-  pub give-is : giveAt s at ≡ made 2
+  pub give-is : giveAt s at ≡ recordFrom s at 2
   unfolding recordOf kindsOf
   give-is = rw (byte-here (kindsOf 2) refl)
 
-  pub step-is : stepAt s at ≡ made 3
+  pub step-is : stepAt s at ≡ recordFrom s at 3
   unfolding recordOf kindsOf
   step-is = rw (byte-here (kindsOf 3) refl, byte-from 1 (kindsOf 3) refl refl, word-from 2 (kindsOf 3) refl refl)
 
-  pub read-is : readFieldsAt s at ≡ made 4
+  pub read-is : readFieldsAt s at ≡ recordFrom s at 4
   unfolding recordOf kindsOf
   read-is = rw (byte-here (kindsOf 4) refl, byte-from 1 (kindsOf 4) refl refl, byte-from 2 (kindsOf 4) refl refl)
 
-  pub write-is : writeAt s at ≡ made 5
+  pub write-is : writeAt s at ≡ recordFrom s at 5
   unfolding recordOf kindsOf
   write-is = rw (byte-here (kindsOf 5) refl, byte-from 1 (kindsOf 5) refl refl, word-from 2 (kindsOf 5) refl refl)
 
-  pub left-is : leftAt s at ≡ made 6
+  pub left-is : leftAt s at ≡ recordFrom s at 6
   unfolding recordOf kindsOf
   left-is = rw (byte-here (kindsOf 6) refl, byte-from 1 (kindsOf 6) refl refl)
 
-  pub copy-is : copyAt s at ≡ made 7
+  pub copy-is : copyAt s at ≡ recordFrom s at 7
   unfolding recordOf kindsOf
   copy-is = rw (byte-here (kindsOf 7) refl, byte-from 1 (kindsOf 7) refl refl, byte-from 2 (kindsOf 7) refl refl, word-from 3 (kindsOf 7) refl refl)
 
-  pub fill-is : fillAt s at ≡ made 8
+  pub fill-is : fillAt s at ≡ recordFrom s at 8
   unfolding recordOf kindsOf
   fill-is = rw (byte-here (kindsOf 8) refl, byte-from 1 (kindsOf 8) refl refl, byte-from 2 (kindsOf 8) refl refl, word-from 3 (kindsOf 8) refl refl)
 
-  pub lock-is : lockAt s at ≡ made 9
+  pub lock-is : lockAt s at ≡ recordFrom s at 9
   unfolding recordOf kindsOf
   lock-is = rw (byte-here (kindsOf 9) refl)
 
-  pub unlock-is : unlockAt s at ≡ made 10
+  pub unlock-is : unlockAt s at ≡ recordFrom s at 10
   unfolding recordOf kindsOf
   unlock-is = rw (byte-here (kindsOf 10) refl)
 
-  pub again-is : againAt s at ≡ made 11
+  pub again-is : againAt s at ≡ recordFrom s at 11
   unfolding recordOf kindsOf
   again-is = rw (byte-here (kindsOf 11) refl, half-from 1 (kindsOf 11) refl refl)
 
-  pub set-is : setAt s at ≡ made 12
+  pub set-is : setAt s at ≡ recordFrom s at 12
   unfolding recordOf kindsOf
   set-is = rw (byte-here (kindsOf 12) refl, word-from 1 (kindsOf 12) refl refl)
 

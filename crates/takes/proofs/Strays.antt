@@ -12,10 +12,10 @@ use Rattle.takes.specs.Operations.{known}
 use Rattle.takes.specs.Records.{recordOf, backTo}
 use Rattle.takes.specs.Reading.{readAt}
 use Rattle.takes.specs.Files.{notBefore, strays}
-use Rattle.takes.specs.Inner.{halfAt, strayAt}
+use Rattle.takes.specs.Inner.{halfAt, recordFrom, recordThere, strayAt}
 use Rattle.takes.proofs.Operations.{every-operation}
 use Rattle.takes.proofs.Readings.{theRecord, operation-at, good-known}
-use Rattle.takes.proofs.Records.{made, again-is}
+use Rattle.takes.proofs.Records.{again-is}
 
 -- the operation again
 abbrev pub again : ℕ
@@ -48,7 +48,7 @@ goes-on =
     )
 
 module _ (s : List ℕ) (at i : ℕ) where
-  record-is : theRecord (drop at s) ≡ made s (at + 2) (getD s (at + 1) 0)
+  record-is : theRecord (drop at s) ≡ recordThere s at
   record-is = rw (operation-at s at, drop-drop 2 at s)
 
   pub another-goes-on : readAt s at .number ≡ 0 → (getD s (at + 1) 0 ≡ again → ⊥) → false ≡ strayAt s at i
@@ -58,4 +58,4 @@ module _ (s : List ℕ) (at i : ℕ) where
   pub again-by-index : getD s (at + 1) 0 ≡ again → (k : ℕ) → k ≡ halfAt s (at + 3) → leb i k ≡ strayAt s at i
   again-by-index e k h =
       ap (leb i) (h ∙ ap (halfAt s) (sym (add-assoc at 2 1)))
-      ∙ sym (ap (strays i) (record-is ∙ (ap (made s (at + 2)) e ∙ sym (again-is s (at + 2)))))
+      ∙ sym (ap (strays i) (record-is ∙ (ap (recordFrom s (at + 2)) e ∙ sym (again-is s (at + 2)))))

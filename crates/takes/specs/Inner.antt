@@ -9,7 +9,7 @@ use Rattle.common.specs.Bytes.{bigEndian}
 use Rattle.heap.specs.Registers.{registerCount}
 use Rattle.takes.specs.Operations.{Kind, register, byte, half, word, lastInTable, known, kindsOf, lengthOf}
 use Rattle.takes.specs.Records.{recordOf}
-use Rattle.takes.specs.Reading.{operationByte, fieldValues}
+use Rattle.takes.specs.Reading.{values, operationByte, fieldValues}
 use Rattle.takes.specs.Files.{strays}
 use Rattle.takes.specs.declared.Record.{Record}
 use Rattle.takes.specs.declared.Record.the-variants.{Get, Give, Step, Read, Write, Left, Copy, Fill, Lock, Unlock, Again, Set}
@@ -95,6 +95,13 @@ againAt file at = Again (byteAt file at) (halfAt file (at + 1))
 -- of the operation set
 abbrev pub setAt : List ℕ → ℕ → Record
 setAt file at = Set (byteAt file at) (wordAt file (at + 1))
+
+-- the record of an operation whose fields start at a place, and the record that starts at a place
+abbrev pub recordFrom : List ℕ → ℕ → ℕ → Record
+recordFrom file at op = recordOf op (values (kindsOf op) (drop at file))
+
+abbrev pub recordThere : List ℕ → ℕ → Record
+recordThere file at = recordFrom file (at + 2) (byteAt file (at + 1))
 
 -- whether the record at a place of the file, which is its record i, is an again that does not go back
 abbrev pub strayAt : List ℕ → ℕ → ℕ → Bool

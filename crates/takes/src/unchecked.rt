@@ -1,22 +1,21 @@
-// The reader of a record that was judged and found good: `read` and `next` take that for granted, and judge nothing.
+// A record that was judged and found good, read: all here takes that for granted. A run, which makes no `Record`, uses `next` and `index_at` alone.
 use crate::Record;
 use common::index;
 ghost use mathlib.Core.Path.{_≡_};
 ghost use Prim.Native.Nat.{_+_, _≤_};
 ghost use mathlib.Core.Bool.{true};
 ghost use mathlib.Core.Option.{some};
-ghost use lib.ListN.{length, drop};
+ghost use lib.ListN.{length};
 ghost use Rattle.takes.specs.Operations.{known, kindsOf, sizes};
-ghost use Rattle.takes.specs.Records.{recordOf};
-ghost use Rattle.takes.specs.Reading.{values, readAt};
+ghost use Rattle.takes.specs.Reading.{readAt};
 ghost use Rattle.takes.specs.Inner.{getAt, giveAt, stepAt, readFieldsAt, writeAt, leftAt, copyAt, fillAt, lockAt, unlockAt};
-ghost use Rattle.takes.specs.Inner.{halfAt, againAt, setAt, strayAt};
+ghost use Rattle.takes.specs.Inner.{halfAt, againAt, setAt, recordFrom, strayAt};
 
 // The operation that goes back to a record.
 const AGAIN: u8 = 11;
 
 // The index of a record, in two bytes.
-fn index_at(file: &[u8], at: usize) -> u16
+pub fn index_at(file: &[u8], at: usize) -> u16
     requires { ⌜ at + 2 ≤ length (now file) ⌝ }
     ensures { λ r. ⌜ r ≡ halfAt (now (file .entry)) at ⌝ }
 {
@@ -122,7 +121,7 @@ fn set_at(file: &[u8], at: usize) -> Record
 fn record_at(file: &[u8], at: usize, op: u8) -> Record
     requires { ⌜ known op ≡ true ⌝ }
     requires { ⌜ at + sizes (kindsOf op) ≤ length (now file) ⌝ }
-    ensures { λ r. ⌜ r ≡ recordOf op (values (kindsOf op) (drop at (now (file .entry)))) ⌝ }
+    ensures { λ r. ⌜ r ≡ recordFrom (now (file .entry)) at op ⌝ }
 {
     match op {
         1 => get_at(file, at),

@@ -30,10 +30,10 @@ freshened c = c .before .before .before .before .before
 abbrev ordered-before : tie.At-loop Inv-loop μ-loop → tie.After-order-of Inv-loop μ-loop
 ordered-before c = freshened c .before .before .before
 
-abbrev in-loop : tie.After-call Inv-loop μ-loop → tie.In-loop Inv-loop μ-loop
-in-loop c = c .before .before .before .before
+abbrev in-loop : tie.After-make-call-at Inv-loop μ-loop → tie.In-loop Inv-loop μ-loop
+in-loop c = c .before .before .before
 
-abbrev called : tie.After-store-arg Inv-loop μ-loop → tie.After-call Inv-loop μ-loop
+abbrev called : tie.After-store-arg Inv-loop μ-loop → tie.After-make-call-at Inv-loop μ-loop
 called c = c .before .before .before .before .before
 
 abbrev stored : tie.After-slice-known8 Inv-loop μ-loop → tie.After-store Inv-loop μ-loop
@@ -80,14 +80,11 @@ loop-holds c =
     let f = made .fresh in
     replays-start _ _ (s o .args .arena .now) (s o .args .table .now) _ (f .last .0) (f .last .1 .0) (f .result) (fine o) (f .ensures)
 
-mul-call-at : tie.Need-mul-call-at Inv-loop μ-loop
-mul-call-at c = omega arith
+mul-make-call-at : tie.Need-mul-make-call-at Inv-loop μ-loop
+mul-make-call-at c = omega arith
 
-call-at-requires : tie.Need-call-at-requires Inv-loop μ-loop
-call-at-requires c κs = omega arith
-
-call-requires : tie.Need-call-requires Inv-loop μ-loop
-call-requires c κs = replays-sound (c .before .before .before .before .loop .inv)
+make-call-at-requires : tie.Need-make-call-at-requires Inv-loop μ-loop
+make-call-at-requires c κs = (replays-sound (c .before .before .before .loop .inv), omega arith)
 
 -- the calls are fewer than the bytes of a slice can be
 mul-store : tie.Need-mul-store Inv-loop μ-loop
@@ -105,10 +102,11 @@ loop-less c = omega arith
 loop-again : tie.Need-loop-again Inv-loop μ-loop
 loop-again c =
     let out = stored c .store in
-    let k : tie.After-call Inv-loop μ-loop = called (stored c .before) in
+    let k : tie.After-make-call-at Inv-loop μ-loop = called (stored c .before) in
     let l : tie.In-loop Inv-loop μ-loop = in-loop k in
-    replays-step (l .before .loop .inv) (l .loop-test .taken) (k .before .call-at .result) (k .before .call-at .ensures) (k .call .result)
-    (k .call .last .0) (k .call .last .1 .0) (out .last .0) (k .call .ensures) (out .ensures) (out .kept .0)
+    let made = k .make-call-at in
+    replays-step (l .before .loop .inv) (l .loop-test .taken) (made .result) (made .last .0) (made .last .1 .0) (out .last .0) (made .ensures)
+    (out .ensures) (out .kept .0)
 
 same-length-4 : tie.Need-same-length-4 Inv-loop μ-loop
 same-length-4 c = replays-sound (c .before .loop .inv) .size ∙ sym (fine (ordered-before (c .before)) .sized .size)
@@ -140,9 +138,8 @@ replay-spec =
     order-of-requires
     fresh-requires
     loop-holds
-    mul-call-at
-    call-at-requires
-    call-requires
+    mul-make-call-at
+    make-call-at-requires
     mul-store
     store-requires
     add-i

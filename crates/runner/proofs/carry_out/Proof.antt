@@ -3,24 +3,28 @@
 use Prim.Native.Nat.{ℕ, _+_, _-_, _*_, _≤_, _<_}
 use mathlib.Core.Path.{_≡_, refl, sym, _∙_, ap}
 use mathlib.Core.List.{List}
+use mathlib.Core.Option.{some}
 use mathlib.Core.Logic.{_⊎_, inl, inr, ⊎-elim}
 use native.Mathlib.Omega.{arith}
 use borrow.Author.Needs.{needs}
 use borrow.Author.Tests.{ltb-true, ltb-false}
 use lib.ListN.{length, getD, set, length-set}
 use lib.Seq.{set-out}
+use Rattle.takes.specs.Reading.{readAt}
 use Rattle.takes.specs.Files.{longest, fileNumber, recordsOf}
+use Rattle.takes.specs.Inner.{recordThere}
 use Rattle.takes.specs.declared.Record.{Record}
+use Rattle.takes.proofs.Readings.{good-record}
 use Rattle.heap.specs.Answers.{answerLength}
 use Rattle.heap.specs.declared.Answer.{Answer}
 use Rattle.runner.specs.Decoding.{registersAfter, dueAfter}
 use Rattle.runner.specs.TakeRuns.{mostSteps}
-use Rattle.runner.specs.Inner.{placeCount, LowRegisters, issuedWith, storedIn}
-use Rattle.runner.specs.declared.decoding.Issued.{Issued}
+use Rattle.runner.specs.Inner.{placeCount, issuedWith, storedIn}
+use Rattle.runner.specs.declared.actions.Issued.{Issued}
 use Rattle.runner.proofs.Files.{accepted-file, few-records}
 use Rattle.runner.proofs.Records.{stored-in}
 use Rattle.runner.proofs.Running.{run-sized, Placed, Going, going-start, going-end, here-placed, in-places, going-step}
-use Rattle.runner.proofs.Running.{placed-good, placed-next, placed-low}
+use Rattle.runner.proofs.Running.{placed-good, placed-next}
 use Rattle.runner.proofs.carry_out.Statement.{statement}
 use Rattle.runner.proofs.carry_out.Tie as tie
 
@@ -87,6 +91,16 @@ module _ (c : tie.Then1 Inv-loop μ-loop) where
   here : Placed (file head) at (head .loop .due)
   here = here-placed (head .loop .inv) (judged head) more left
 
+  -- the record that is due, and the reading of it
+  abbrev item : Record
+  item = recordThere (file head) at
+
+  good : readAt (file head) at .number ≡ 0
+  good = placed-good here left
+
+  found : some item ≡ readAt (file head) at .found
+  found = good-record (file head) at good item refl
+
   in-room : head .loop .due + 1 < placeCount
   in-room = in-places (head .loop .inv) (judged head) more left
 
@@ -110,25 +124,16 @@ short c = omega (arith, here c .inside, accepted-file (file (head c)) (judged (h
 cast-at : tie.Need-cast-at Inv-loop μ-loop
 cast-at c = omega (arith, short c)
 
-read-requires : tie.Need-read-requires Inv-loop μ-loop
-read-requires c κs = placed-good (here c) (left c)
-
 next-requires : tie.Need-next-requires Inv-loop μ-loop
-next-requires c κs = placed-good (here (c .before)) (left (c .before))
+next-requires c κs = good c
 
--- the record that was read, and the place after it
+-- the place after the record
 module _ (c : tie.After-next Inv-loop μ-loop) where
   abbrev due-now : tie.Then1 Inv-loop μ-loop
-  due-now = c .before .before
-
-  abbrev item : Record
-  item = c .before .read .result
+  due-now = c .before
 
   after : Placed (file (head due-now)) (c .next .result) (head due-now .loop .due + 1)
-  after = placed-next (here due-now) (left due-now) item (c .next .result) (c .before .read .ensures) (c .next .ensures)
-
-  low : LowRegisters item
-  low = placed-low (here due-now) (left due-now) item (c .next .result) (c .before .read .ensures) (c .next .ensures)
+  after = placed-next (here due-now) (left due-now) (item due-now) (c .next .result) (found due-now) (c .next .ensures)
 
 cast-places-2 : tie.Need-cast-places-2 Inv-loop μ-loop
 cast-places-2 c =
@@ -145,7 +150,7 @@ array-write-places-2 : tie.Need-array-write-places-2 Inv-loop μ-loop
 array-write-places-2 c = in-room (due-now c)
 
 issue-requires : tie.Need-issue-requires Inv-loop μ-loop
-issue-requires c κs = low (c .before .before)
+issue-requires c κs = good (due-now (c .before .before))
 
 -- what the record does, with the values in its registers
 module _ (c : tie.After-issue Inv-loop μ-loop) where
@@ -155,61 +160,76 @@ module _ (c : tie.After-issue Inv-loop μ-loop) where
   abbrev turn : tie.Then1 Inv-loop μ-loop
   turn = due-now read-on
 
-  issued : c .issue .result ≡ issuedWith (rs (head turn)) (item read-on)
+  issued : c .issue .result ≡ issuedWith (rs (head turn)) (item turn)
   issued = c .issue .ensures
 
-cast-place : tie.Need-cast-place Inv-loop μ-loop
-cast-place c = omega (arith, few (turn c))
-
-mul-place : tie.Need-mul-place Inv-loop μ-loop
-mul-place c = omega (arith, few (turn c))
-
 carry-out-one-requires : tie.Need-carry-out-one-requires Inv-loop μ-loop
-carry-out-one-requires c κs = let t = turn (c .before .before .before) in (head t .loop .inv .sound, answer-room t)
+carry-out-one-requires c κs = head (turn (c .before .before)) .loop .inv .sound
 
--- past it: where the run stands once the value is in its register
+-- the record has been carried out
 module _ (c : tie.After-carry-out-one Inv-loop μ-loop) where
   abbrev acting : tie.After-issue Inv-loop μ-loop
-  acting = c .before .before .before .before
+  acting = c .before .before .before
+
+-- and both buffers are back
+abbrev carried : tie.After-slice-known7 Inv-loop μ-loop → tie.After-carry-out-one Inv-loop μ-loop
+carried c = c .before .before .before .before
+
+cast-store : tie.Need-cast-store Inv-loop μ-loop
+cast-store c = omega (arith, few (turn (acting (carried (c .before)))))
+
+mul-store : tie.Need-mul-store Inv-loop μ-loop
+mul-store c = omega (arith, few (turn (acting (carried (c .before)))))
+
+store-requires : tie.Need-store-requires Inv-loop μ-loop
+store-requires c κs = answer-room (turn (acting (carried (c .before))))
+
+-- its answer is stored: where the run stands once the value is in its register
+module _ (c : tie.After-store Inv-loop μ-loop) where
+  abbrev made : tie.After-carry-out-one Inv-loop μ-loop
+  made = carried (c .before .before)
+
+  abbrev done-by : tie.After-issue Inv-loop μ-loop
+  done-by = acting made
 
   abbrev from : tie.At-loop Inv-loop μ-loop
-  from = head (turn acting)
+  from = head (turn done-by)
 
   abbrev x : Answer
-  x = c .carry-out-one .result
+  x = made .carry-out-one .result
 
-  module _ (d : ℕ) (d-is : d ≡ storedIn (acting .issue .result .d) x) (rs′ : List ℕ) (stored : rs′ ≡ set (rs from) d (x .value)) where
-    registers-are : rs′ ≡ registersAfter (item (read-on acting)) x (rs from)
+  module _ (d : ℕ) (d-is : d ≡ storedIn (done-by .issue .result .d) x) (rs′ : List ℕ) (stored : rs′ ≡ set (rs from) d (x .value)) where
+    registers-are : rs′ ≡ registersAfter (item (turn done-by)) x (rs from)
     registers-are =
         stored
-        ∙ (ap (λ (d : ℕ). set (rs from) d (x .value)) (d-is ∙ ap (λ (r : Issued). storedIn (r .d) x) (issued acting))
-        ∙ stored-in (item (read-on acting)) x (rs from) (from .loop .inv .sixteen))
+        ∙ (ap (λ (d : ℕ). set (rs from) d (x .value)) (d-is ∙ ap (λ (r : Issued). storedIn (r .d) x) (issued done-by))
+        ∙ stored-in (item (turn done-by)) x (rs from) (from .loop .inv .sixteen))
 
-    on : (j : ℕ) → j ≡ dueAfter (acting .issue .result .action) (from .loop .due)
+    on : (j : ℕ) → j ≡ dueAfter (done-by .issue .result .action) (from .loop .due)
         → Going (start from .args .m) (start from .args .most) (file from) (start from .args .answers .now)
-        (c .carry-out-one .last .0) (c .carry-out-one .last .1 .0) rs′
-        (set (from .loop .places) (from .loop .due + 1) (read-on acting .next .result)) (c .carry-out-one .last .1 .1 .0) j (from .loop .done + 1)
+        (made .carry-out-one .last .0) (made .carry-out-one .last .1 .0) rs′
+        (set (from .loop .places) (from .loop .due + 1) (read-on done-by .next .result)) (c .store .last .0) j (from .loop .done + 1)
     on j j-is =
-        let t = turn acting in
-        let n = read-on acting in
-        let k = c .carry-out-one in
-        going-step (from .loop .inv) (judged from) (more t) (left t) (item n) (n .next .result) (n .before .read .ensures) (n .next .ensures)
-        (acting .issue .result .action) x (k .last .0) (k .last .1 .0) rs′ (k .last .1 .1 .0) j (ap (λ (r : Issued). r .action) (issued acting))
-        (k .ensures .0) registers-are j-is
-        (k .ensures .1) (answer-room t) (ap length stored ∙ simp length-set) (k .kept .1 .1 .0)
+        let t = turn done-by in
+        let n = read-on done-by in
+        let k = made .carry-out-one in
+        going-step (from .loop .inv) (judged from) (more t) (left t) (item t) (n .next .result) (found t) (n .next .ensures)
+        (done-by .issue .result .action) x (k .last .0) (k .last .1 .0) rs′ (c .store .last .0) j (ap (λ (r : Issued). r .action) (issued done-by))
+        (k .ensures) registers-are j-is
+        (c .store .ensures) (answer-room t) (ap length stored ∙ simp length-set) (c .store .kept .0)
 
--- the buffers are back, and then the record due next is known
+-- and then the record due next is known
 module _ (c : tie.After-due-after Inv-loop μ-loop) where
-  abbrev made : tie.After-carry-out-one Inv-loop μ-loop
-  made = c .before .before .before .before .before .before .before
+  abbrev answered : tie.After-store Inv-loop μ-loop
+  answered = c .before .before .before
 
 due-after-requires : tie.Need-due-after-requires Inv-loop μ-loop
 due-after-requires c κs =
-    let t = turn (acting (c .before .before .before .before .before .before)) in
+    let t = turn (done-by (c .before .before)) in
     omega (arith, left t, few-records (file (head t)) (judged (head t)))
 
 add-done : tie.Need-add-done Inv-loop μ-loop
-add-done c = omega (arith, few (turn (acting (made c))))
+add-done c = omega (arith, few (turn (done-by (answered c))))
 
 stored-in-requires : tie.Need-stored-in-requires Inv-loop μ-loop
 stored-in-requires c κs = search needs
@@ -221,24 +241,24 @@ element-write-registers : tie.Need-element-write-registers Inv-loop μ-loop
 element-write-registers c = c .if2 .taken
 
 loop-less : tie.Need-loop-less Inv-loop μ-loop
-loop-less c = let t = turn (acting (made (c .before .before))) in omega (arith, more t)
+loop-less c = let t = turn (done-by (answered (c .before .before))) in omega (arith, more t)
 
 loop-again : tie.Need-loop-again Inv-loop μ-loop
 loop-again c =
     let t = c .before in
     let d = t .before in
-    on (made d) (t .stored-in .result) (t .stored-in .ensures) _ refl (d .due-after .result) (d .due-after .ensures)
+    on (answered d) (t .stored-in .result) (t .stored-in .ensures) _ refl (d .due-after .result) (d .due-after .ensures)
 
 loop-less-2 : tie.Need-loop-less-2 Inv-loop μ-loop
-loop-less-2 c = let t = turn (acting (made (c .before .before))) in omega (arith, more t)
+loop-less-2 c = let t = turn (done-by (answered (c .before .before))) in omega (arith, more t)
 
 loop-again-2 : tie.Need-loop-again-2 Inv-loop μ-loop
 loop-again-2 c =
     let t = c .before in
     let d = t .before in
-    let l = from (made d) in
-    on (made d) (t .stored-in .result) (t .stored-in .ensures) (rs l)
-    (sym (set-out (rs l) (t .stored-in .result) (made d .carry-out-one .result .value) (omega (arith, c .if2 .left, l .loop .inv .sixteen))))
+    let l = from (answered d) in
+    on (answered d) (t .stored-in .result) (t .stored-in .ensures) (rs l)
+    (sym (set-out (rs l) (t .stored-in .result) (x (answered d) .value) (omega (arith, c .if2 .left, l .loop .inv .sixteen))))
     (d .due-after .result) (d .due-after .ensures)
 
 ended-requires : tie.Need-ended-requires Inv-loop μ-loop
@@ -281,16 +301,16 @@ carry-out-spec =
     mul-at
     array-read-at
     cast-at
-    read-requires
     next-requires
     cast-places-2
     add-places
     mul-places
     array-write-places-2
     issue-requires
-    cast-place
-    mul-place
     carry-out-one-requires
+    cast-store
+    mul-store
+    store-requires
     due-after-requires
     add-done
     stored-in-requires

@@ -1,16 +1,15 @@
 -- An arm for each operation n: what it needs of the file is what the row of n asks (`fits`), and its record is that of the row (`gives`, with a law for each
 -- operation). The last arm is left to set: an operation of the table that is none of those before.
-use Prim.Native.Nat.{ℕ, _+_, _≤_, _<_}
+use Prim.Native.Nat.{ℕ, _+_, _≤_}
 use mathlib.Core.Path.{_≡_, sym, _∙_, ap}
 use mathlib.Core.List.{List}
-use native.Mathlib.Omega.{arith}
 use lib.ListN.{length}
 use Rattle.takes.specs.Operations.{lastInTable, kindsOf, sizes}
-use Rattle.takes.specs.Inner.{rows, getAt, giveAt, stepAt, readFieldsAt, writeAt, leftAt, copyAt, fillAt, lockAt, unlockAt, againAt, setAt}
+use Rattle.takes.specs.Inner.{getAt, giveAt, stepAt, readFieldsAt, writeAt, leftAt, copyAt, fillAt, lockAt, unlockAt, againAt, setAt}
+use Rattle.takes.specs.Inner.{recordFrom}
 use Rattle.takes.specs.declared.Record.{Record}
-use Rattle.common.proofs.Arms.{above-all}
-use Rattle.takes.proofs.Operations.{in-table}
-use Rattle.takes.proofs.Records.{made, get-is, give-is, step-is, read-is, write-is, left-is, copy-is, fill-is, lock-is, unlock-is, again-is, set-is}
+use Rattle.takes.proofs.Operations.{last-arm}
+use Rattle.takes.proofs.Records.{get-is, give-is, step-is, read-is, write-is, left-is, copy-is, fill-is, lock-is, unlock-is, again-is, set-is}
 use Rattle.takes.proofs.unchecked.record_at.Statement.{statement}
 use Rattle.takes.proofs.unchecked.record_at.Tie as tie
 
@@ -19,18 +18,12 @@ module _ (s : tie.Start) (n : ℕ) (is : s .args .op ≡ n) where
   fits : s .args .at + sizes (kindsOf n) ≤ length (s .args .file .now)
   fits = rw is at (s .pre .1)
 
-  gives : {r : Record} (place : List ℕ → ℕ → Record) → ((file : List ℕ) (at : ℕ) → place file at ≡ made file at n)
-      → r ≡ place (s .args .file .now) (s .args .at) → r ≡ made (s .args .file .now) (s .args .at) (s .args .op)
-  gives place law p = p ∙ (law _ _ ∙ ap (made (s .args .file .now) (s .args .at)) (sym is))
-
--- the operation that is left: in the table, and above all of those before
-only : {op : ℕ} → 11 < op → op < rows → op ≡ lastInTable
-only h k = omega arith
+  gives : {r : Record} (place : List ℕ → ℕ → Record) → ((file : List ℕ) (at : ℕ) → place file at ≡ recordFrom file at n)
+      → r ≡ place (s .args .file .now) (s .args .at) → r ≡ recordFrom (s .args .file .now) (s .args .at) (s .args .op)
+  gives place law p = p ∙ (law _ _ ∙ ap (recordFrom (s .args .file .now) (s .args .at)) (sym is))
 
 last : (c : tie.At-match-rest) → c .before .before .args .op ≡ lastInTable
-last c =
-    let t = in-table (c .before .before .args .op) (c .before .before .pre .0) in
-    only (above-all (c .before .before .args .op) 11 (c .match .rest) (t .above)) (t .below)
+last c = last-arm (c .before .before .args .op) (c .before .before .pre .0) (c .match .rest)
 
 pub record-at-spec : {M : Type 1} → statement M
 unfolding kindsOf

@@ -1,8 +1,8 @@
 -- Each arm is given what the record does.
 use native.Mathlib.Omega.{arith}
 use borrow.Author.Needs.{needs}
-use Rattle.runner.proofs.decoding.due_after.Statement.{statement}
-use Rattle.runner.proofs.decoding.due_after.Tie as tie
+use Rattle.runner.proofs.actions.due_after.Statement.{statement}
+use Rattle.runner.proofs.actions.due_after.Tie as tie
 
 returns : tie.Need-returns
 returns c = rw (c .enum-told .given .1) (omega arith)

@@ -1,8 +1,8 @@
 -- By cases of the register's value, as the test tells it.
 use borrow.Author.Tests.{ne-eqb}
 use borrow.Author.Needs.{needs}
-use Rattle.runner.proofs.decoding.again_with.Statement.{statement}
-use Rattle.runner.proofs.decoding.again_with.Tie as tie
+use Rattle.runner.proofs.issuing.again_with.Statement.{statement}
+use Rattle.runner.proofs.issuing.again_with.Tie as tie
 
 returns : tie.Need-returns
 returns c = rw (c .if1 .taken)

@@ -1,8 +1,8 @@
 -- A record with a number other than 0 was refused and stores nowhere; else the value goes to d.
 use borrow.Author.Tests.{ne-eqb}
 use borrow.Author.Needs.{needs}
-use Rattle.runner.proofs.decoding.stored_in.Statement.{statement}
-use Rattle.runner.proofs.decoding.stored_in.Tie as tie
+use Rattle.runner.proofs.actions.stored_in.Statement.{statement}
+use Rattle.runner.proofs.actions.stored_in.Tie as tie
 
 index-requires : tie.Need-index-requires
 index-requires c κs = search needs
