@@ -33,6 +33,10 @@ static void direct_calls(void)
     print_answer("left from there", tulivombe_left(arena, sizeof arena, table, sizeof table, block.value + 27));
     print_answer("check 31", tulivombe_check(arena, sizeof arena, table, sizeof table, block.value, 31));
     print_answer("check 32", tulivombe_check(arena, sizeof arena, table, sizeof table, block.value, 32));
+    print_answer("grid of 4 by 8, row 3 column 7",
+                 tulivombe_grid(arena, sizeof arena, table, sizeof table, block.value, 4, 8, 3, 7));
+    print_answer("grid of 5 by 8, too large",
+                 tulivombe_grid(arena, sizeof arena, table, sizeof table, block.value, 5, 8, 0, 0));
     part = tulivombe_show(arena, sizeof arena, table, sizeof table, block.value + 26);
     printf("show %u:", (unsigned)part.number);
     for (uint32_t k = 0; k < part.length; k++) {
@@ -45,13 +49,13 @@ static void direct_calls(void)
 
 /* Document 01's take. It repeats nothing, so a budget of as many records carries out all of it. */
 static const tulivombe_record records[] = {
-    {1, 0, 0, 0, 0, 0, 20},           /* get d0 20 */
-    {1, 1, 0, 0, 0, 0, 16},           /* get d1 16 */
-    {3, 2, 0, 0, 0, 0, 32},           /* step d2 a0 32 */
-    {4, 3, 2, 0, 1, 0, 0},            /* read d3 a2 1 */
-    {3, 2, 2, 0, 0, 0, (uint32_t)-1}, /* step d2 a2 -1 */
-    {1, 4, 0, 0, 0, 0, 32},           /* get d4 32 */
-    {2, 0, 0, 0, 0, 0, 0},            /* give a0 */
+    {1, 0, 0, 0, 0, 0, 20, 0, 0, 0, 0},           /* get d0 20 */
+    {1, 1, 0, 0, 0, 0, 16, 0, 0, 0, 0},           /* get d1 16 */
+    {3, 2, 0, 0, 0, 0, 32, 0, 0, 0, 0},           /* step d2 a0 32 */
+    {4, 3, 2, 0, 1, 0, 0, 0, 0, 0, 0},            /* read d3 a2 1 */
+    {3, 2, 2, 0, 0, 0, (uint32_t)-1, 0, 0, 0, 0}, /* step d2 a2 -1 */
+    {1, 4, 0, 0, 0, 0, 32, 0, 0, 0, 0},           /* get d4 32 */
+    {2, 0, 0, 0, 0, 0, 0, 0, 0, 0, 0},            /* give a0 */
 };
 #define RECORDS (sizeof records / sizeof records[0])
 

@@ -54,15 +54,15 @@ extern "C" {
 #define TULIVOMBE_ANSWER_LENGTH 5   /* bytes of an answer: number, then value big-endian */
 #define TULIVOMBE_CALL_LENGTH 14    /* bytes of a call in a replay */
 
-/* What `number` can say. 1 to 13, 26 and 29 speak of the input, 20 to 25, 27 and 28 of the heap's state; a call's 13
- * is judged among the latter. */
+/* What `number` can say. 1 to 13, 26, 29 and 30 speak of the input, 20 to 25, 27 and 28 of the heap's state; a call's
+ * 13 is judged among the latter. */
 enum tulivombe_number {
     TULIVOMBE_OK = 0,
     TULIVOMBE_VERSION = 1,           /* file empty, or its first byte is not 01 */
     TULIVOMBE_SIZE = 2,              /* size byte missing, or not 5 to 16 */
     TULIVOMBE_FILE_TOO_LONG = 3,     /* file longer than TULIVOMBE_LONGEST_FILE bytes */
     TULIVOMBE_RECORD_LENGTH = 4,     /* record length 0, or more than the bytes left */
-    TULIVOMBE_OPERATION = 5,         /* operation not 1 to 12; in a replay, not 1 to 10 */
+    TULIVOMBE_OPERATION = 5,         /* operation not 1 to 13; in a replay, not 1 to 10 or 13 */
     TULIVOMBE_OPERATION_LENGTH = 6,  /* length wrong for the operation */
     TULIVOMBE_REGISTER = 7,          /* register above 15 */
     TULIVOMBE_LENGTHS = 8,           /* arena or table of a wrong length */
@@ -76,11 +76,12 @@ enum tulivombe_number {
     TULIVOMBE_FREE_SLOT = 22,        /* a pointer is sought at a free slot: its block is given back, or was never got */
     TULIVOMBE_NOT_THE_START = 23,    /* give: not the block's start */
     TULIVOMBE_BEYOND_REACH = 24,     /* step: more than 8 bytes outside the block */
-    TULIVOMBE_PAST_THE_END = 25,     /* read, write: the last byte lies outside the block */
+    TULIVOMBE_PAST_THE_END = 25,     /* read, write, grid: the last byte lies outside the block */
     TULIVOMBE_TOO_MANY_RECORDS = 26, /* front panel: more than TULIVOMBE_SCREENFUL records */
     TULIVOMBE_OUTSIDE = 27,          /* a pointer is sought outside the arena: it never was one into this heap */
     TULIVOMBE_LOCKED = 28,           /* write, fill, copy into, give: the block is locked */
-    TULIVOMBE_NOT_BACK = 29          /* again: its k is not below the record's own index */
+    TULIVOMBE_NOT_BACK = 29,         /* again: its k is not below the record's own index */
+    TULIVOMBE_NOT_IN_GRID = 30       /* grid: the row is not below the rows, or the column not below the columns */
 };
 
 /* A call's answer. */
@@ -113,13 +114,17 @@ typedef struct {
  * 0, and the writer ignores them. */
 typedef struct {
     uint8_t operation; /* 1 get, 2 give, 3 step, 4 read, 5 write, 6 left, 7 copy, 8 fill, 9 lock, 10 unlock,
-                          11 again, 12 set */
-    uint8_t d;         /* register for the value: get, step, read, left, copy, fill, set; counted down: again */
+                          11 again, 12 set, 13 grid */
+    uint8_t d;         /* register for the value: get, step, read, left, copy, fill, set, grid; counted down: again */
     uint8_t a;         /* register of p: all but get, again and set */
     uint8_t b;         /* register of q: copy */
     uint8_t byte;      /* w: read, write; v: fill */
     uint16_t index;    /* k: again */
     uint32_t word;     /* n: get, copy, fill, set; i in two's complement: step; v: write */
+    uint8_t rows;      /* this and the next three: grid alone */
+    uint8_t columns;
+    uint8_t row;
+    uint8_t column;
 } tulivombe_record;
 
 /* What the reader gives. Refused, next is 0 and all fields of the record are 0. */
@@ -181,6 +186,12 @@ tulivombe_answer tulivombe_lock(const uint8_t *arena, size_t arena_len, uint8_t 
 tulivombe_answer tulivombe_unlock(const uint8_t *arena, size_t arena_len, uint8_t *table, size_t table_len,
                                   uint32_t p);
 
+/* Gives the address of a place in a grid of rows by columns bytes that starts at p: p + row * columns + column, with
+ * row and column counted from 0. The whole grid must lie in p's block, which may be locked; nothing is changed.
+ * Refused: 8, 30, 20, 27, 22, 13, 25. Value: the address. */
+tulivombe_answer tulivombe_grid(const uint8_t *arena, size_t arena_len, const uint8_t *table, size_t table_len,
+                                uint32_t p, uint8_t rows, uint8_t columns, uint8_t row, uint8_t column);
+
 /* Checks whether the sum of h, a plain pointer, and i, signed in two's complement, lies in h's block.
  * Refused: 8, 20, 27, 22, 13. Value: 1 or 0. */
 tulivombe_answer tulivombe_check(const uint8_t *arena, size_t arena_len, const uint8_t *table, size_t table_len,
@@ -217,7 +228,7 @@ uint32_t tulivombe_put_register(tulivombe_registers *registers, uint8_t d, uint3
  * `out`, as a run does; its bytes past them stay. A call is TULIVOMBE_CALL_LENGTH bytes: the operation as in a
  * record, a byte x, and three numbers a, b, c in 4 bytes each, big-endian:
  *     1 get a, 2 give a, 3 step a b, 4 read a x, 5 write a x b, 6 left a, 7 copy a b c, 8 fill a x c,
- *     9 lock a, 10 unlock a
+ *     9 lock a, 10 unlock a, 13 grid a with the four bytes of b, in their order, for rows, columns, row and column
  * with the arguments in the order of the calls above; what a call does not name is not looked at.
  * There may be any number of calls. Refused: 4 (no whole number of calls), 5 (in any of them), 8, 9, and then
  * nothing is changed. Returns the number. */

@@ -26,6 +26,10 @@ int main(void)
     OFFSET(tulivombe_record, byte);
     OFFSET(tulivombe_record, index);
     OFFSET(tulivombe_record, word);
+    OFFSET(tulivombe_record, rows);
+    OFFSET(tulivombe_record, columns);
+    OFFSET(tulivombe_record, row);
+    OFFSET(tulivombe_record, column);
     SIZE(tulivombe_place);
     OFFSET(tulivombe_place, record);
     OFFSET(tulivombe_place, next);

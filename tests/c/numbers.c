@@ -18,5 +18,6 @@ int main(void)
     NUMBER(OUTSIDE);
     NUMBER(LOCKED);
     NUMBER(NOT_BACK);
+    NUMBER(NOT_IN_GRID);
     return 0;
 }

@@ -2,7 +2,7 @@
 
 use crate::subject::{Answer, Subject};
 
-/// One of the ten calls, with its arguments.
+/// One of the eleven calls, with its arguments.
 #[derive(Clone, Copy, Debug, PartialEq, Eq)]
 pub enum Call {
     Get { n: u32 },
@@ -15,10 +15,11 @@ pub enum Call {
     Fill { p: u32, v: u8, n: u32 },
     Lock { p: u32 },
     Unlock { p: u32 },
+    Grid { p: u32, rows: u8, columns: u8, row: u8, column: u8 },
 }
 
-/// Each of the ten calls once, where the arguments don't matter.
-pub const CALLS: [Call; 10] = [
+/// Each of the eleven calls once, where the arguments don't matter.
+pub const CALLS: [Call; 11] = [
     Call::Get { n: 0 },
     Call::Give { p: 0 },
     Call::Step { p: 0, i: 0 },
@@ -29,6 +30,7 @@ pub const CALLS: [Call; 10] = [
     Call::Fill { p: 0, v: 0, n: 0 },
     Call::Lock { p: 0 },
     Call::Unlock { p: 0 },
+    Call::Grid { p: 0, rows: 0, columns: 0, row: 0, column: 0 },
 ];
 
 impl Call {
@@ -45,6 +47,7 @@ impl Call {
             Call::Fill { p, v, n } => S::fill(arena, table, p, v, n),
             Call::Lock { p } => S::lock(arena, table, p),
             Call::Unlock { p } => S::unlock(arena, table, p),
+            Call::Grid { p, rows, columns, row, column } => S::grid(arena, table, p, rows, columns, row, column),
         }
     }
 
@@ -60,6 +63,7 @@ impl Call {
             Call::Fill { .. } => "fill",
             Call::Lock { .. } => "lock",
             Call::Unlock { .. } => "unlock",
+            Call::Grid { .. } => "grid",
         }
     }
 
@@ -70,7 +74,7 @@ impl Call {
             Call::Copy { p, q, .. } => vec![p, q],
             Call::Give { p } | Call::Step { p, .. } | Call::Read { p, .. } => vec![p],
             Call::Write { p, .. } | Call::Left { p } | Call::Fill { p, .. } => vec![p],
-            Call::Lock { p } | Call::Unlock { p } => vec![p],
+            Call::Lock { p } | Call::Unlock { p } | Call::Grid { p, .. } => vec![p],
         }
     }
 
@@ -87,6 +91,9 @@ impl Call {
             Call::Fill { p, v, n } => (8, v, [p, 0, n]),
             Call::Lock { p } => (9, 0, [p, 0, 0]),
             Call::Unlock { p } => (10, 0, [p, 0, 0]),
+            Call::Grid { p, rows, columns, row, column } => {
+                (13, 0, [p, u32::from_be_bytes([rows, columns, row, column]), 0])
+            }
         };
         let mut bytes = [0; 14];
         bytes[..2].copy_from_slice(&[operation, x]);
@@ -96,7 +103,7 @@ impl Call {
         bytes
     }
 
-    /// The call of 14 bytes, if its operation is one of the ten.
+    /// The call of 14 bytes, if its operation is one of the eleven.
     pub fn decode(bytes: &[u8]) -> Option<Call> {
         let &[operation, x, ref numbers @ ..] = bytes else {
             return None;
@@ -114,6 +121,10 @@ impl Call {
             8 => Some(Call::Fill { p, v: x, n: third }),
             9 => Some(Call::Lock { p }),
             10 => Some(Call::Unlock { p }),
+            13 => {
+                let [rows, columns, row, column] = second.to_be_bytes();
+                Some(Call::Grid { p, rows, columns, row, column })
+            }
             _ => None,
         }
     }

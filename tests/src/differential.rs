@@ -185,7 +185,7 @@ fn one_plain_c_call(rng: &mut Rng, heaps: &mut Case, m: u32, known: &mut Vec<u32
 /// A call's name and the number of two answers to it, which must be equal; a pointer that it gave is known from now on.
 fn agreed(call: Call, answers: [Answer; 2], known: &mut Vec<u32>, what: &str) -> (&'static str, u32) {
     assert_eq!(answers[0], answers[1], "{what}: {call:?}");
-    if let (Call::Get { .. } | Call::Step { .. }, 0) = (call, answers[0].number) {
+    if let (Call::Get { .. } | Call::Step { .. } | Call::Grid { .. }, 0) = (call, answers[0].number) {
         known.push(answers[0].value);
     }
     (call.name(), answers[0].number)
@@ -303,7 +303,7 @@ pub fn replays<A: Subject, B: Subject>(rng: &mut Rng, lists: u32, largest: u32) 
         }
         if rng.once_in(6) && !list.is_empty() {
             let at = rng.below(list.len() as u32) as usize;
-            list[at / 14 * 14] = rng.pick(&[0, 1, 10, 11, 12, 255]);
+            list[at / 14 * 14] = rng.pick(&[0, 1, 10, 11, 12, 13, 14, 255]);
         }
         if rng.once_in(8) {
             list.resize(list.len() + rng.within(1, 13) as usize, 1);
@@ -384,6 +384,7 @@ fn spoiled(rng: &mut Rng) -> Record {
         Record::Unlock { .. } => Record::Unlock { a },
         Record::Again { k, .. } => Record::Again { d, k },
         Record::Set { n, .. } => Record::Set { d, n },
+        Record::Grid { rows, columns, row, column, .. } => Record::Grid { d, a, rows, columns, row, column },
     }
 }
 

@@ -9,8 +9,8 @@ const BASE: i64 = 65_536;
 const MARK: u32 = 2_147_483_648;
 
 /// The numbers of the calls in the order in which they are judged: a refused call gives the first that applies. They
-/// rise, but 27 is "judged just before 22", and 13 "after 20, 27 and 22"; 28 is "judged last".
-pub const JUDGED: [u32; 13] = [8, 10, 11, 12, 20, 21, 27, 22, 13, 23, 24, 25, 28];
+/// rise, but 27 is "judged just before 22", 13 "after 20, 27 and 22" and 30 "after 12"; 28 is "judged last".
+pub const JUDGED: [u32; 14] = [8, 10, 11, 12, 30, 20, 21, 27, 22, 13, 23, 24, 25, 28];
 
 /// Numbers that can refuse a call, each with whether it applies.
 pub type Refusals = Vec<(u32, bool)>;
@@ -203,7 +203,7 @@ impl Ledger {
         let any_marked = |pointers: &[u32]| (13, pointers.iter().any(|&p| p >= MARK));
         let bad_width = |w: u8| (11, ![1, 2, 4].contains(&w));
         let too_wide = |w: u8, v: u32| (12, i64::from(v) >= 256i64.pow(u32::from(w.min(4))));
-        let past = |p: u32, w: u8| (25, self.home(p).is_some_and(|home| i64::from(p) + i64::from(w) - 1 > home.end()));
+        let past = |p: u32, count: i64| (25, self.home(p).is_some_and(|home| i64::from(p) + count - 1 > home.end()));
         let locked = |p: u32| (28, self.locked(p));
         let own = match call {
             Call::Get { n } => {
@@ -219,11 +219,18 @@ impl Ledger {
                 let beyond = self.home(p).is_some_and(|home| r < home.start - 8 || r > home.end() + 8);
                 vec![(24, beyond)]
             }
-            Call::Read { p, w } => vec![bad_width(w), any_marked(&[p]), past(p, w)],
-            Call::Write { p, w, v } => vec![bad_width(w), too_wide(w, v), any_marked(&[p]), past(p, w), locked(p)],
+            Call::Read { p, w } => vec![bad_width(w), any_marked(&[p]), past(p, w.into())],
+            Call::Write { p, w, v } => {
+                vec![bad_width(w), too_wide(w, v), any_marked(&[p]), past(p, w.into()), locked(p)]
+            }
             Call::Left { p } | Call::Lock { p } | Call::Unlock { p } => vec![any_marked(&[p])],
             Call::Copy { p, q, .. } => vec![any_marked(&[p, q]), locked(p)],
             Call::Fill { p, .. } => vec![any_marked(&[p]), locked(p)],
+            Call::Grid { p, rows, columns, row, column } => {
+                // "The grid, rows x columns bytes from a, must lie in a's home", whichever place is asked for
+                let bytes = i64::from(rows) * i64::from(columns);
+                vec![(30, row >= rows || column >= columns), any_marked(&[p]), past(p, bytes)]
+            }
         };
         [own, self.missing(&call.pointers())].concat()
     }
@@ -273,6 +280,7 @@ impl Ledger {
             }
             Call::Lock { p } => self.set_lock(p, true),
             Call::Unlock { p } => self.set_lock(p, false),
+            Call::Grid { p, columns, row, column, .. } => p + u32::from(row) * u32::from(columns) + u32::from(column),
         }
     }
 

@@ -17,6 +17,10 @@ pub struct FlatRecord {
     pub byte: u8,
     pub index: u16,
     pub word: u32,
+    pub rows: u8,
+    pub columns: u8,
+    pub row: u8,
+    pub column: u8,
 }
 
 #[derive(Clone, Copy, Debug, PartialEq, Eq)]
@@ -47,6 +51,7 @@ unsafe extern "C" {
     fn tulivombe_fill(arena: *mut u8, arena_len: usize, table: *const u8, table_len: usize, p: u32, v: u8, n: u32) -> Answer;
     fn tulivombe_lock(arena: *const u8, arena_len: usize, table: *mut u8, table_len: usize, p: u32) -> Answer;
     fn tulivombe_unlock(arena: *const u8, arena_len: usize, table: *mut u8, table_len: usize, p: u32) -> Answer;
+    fn tulivombe_grid(arena: *const u8, arena_len: usize, table: *const u8, table_len: usize, p: u32, rows: u8, columns: u8, row: u8, column: u8) -> Answer;
     fn tulivombe_check(arena: *const u8, arena_len: usize, table: *const u8, table_len: usize, h: u32, i: u32) -> Answer;
     fn tulivombe_show(arena: *const u8, arena_len: usize, table: *const u8, table_len: usize, p: u32) -> Part;
     fn tulivombe_run(file: *const u8, file_len: usize, arena: *mut u8, arena_len: usize, table: *mut u8, table_len: usize, answers: *mut u8, answers_len: usize, budget: u32) -> Ran;
@@ -116,6 +121,12 @@ impl Subject for Library {
     #[inline]
     fn unlock(arena: &[u8], table: &mut [u8], p: u32) -> Answer {
         unsafe { tulivombe_unlock(arena.as_ptr(), arena.len(), table.as_mut_ptr(), table.len(), p) }
+    }
+
+    #[inline]
+    fn grid(arena: &[u8], table: &[u8], p: u32, rows: u8, columns: u8, row: u8, column: u8) -> Answer {
+        let (a, t) = (arena.as_ptr(), table.as_ptr());
+        unsafe { tulivombe_grid(a, arena.len(), t, table.len(), p, rows, columns, row, column) }
     }
 
     #[inline]
@@ -189,12 +200,15 @@ fn flat(record: Record) -> FlatRecord {
         Record::Unlock { a } => FlatRecord { operation: 10, a, ..none },
         Record::Again { d, k } => FlatRecord { operation: 11, d, index: k, ..none },
         Record::Set { d, n } => FlatRecord { operation: 12, d, word: n, ..none },
+        Record::Grid { d, a, rows, columns, row, column } => {
+            FlatRecord { operation: 13, d, a, rows, columns, row, column, ..none }
+        }
     }
 }
 
 /// The record of a flat one, which must have 0 in every field that its operation lacks.
 fn structured(given: FlatRecord) -> Record {
-    let FlatRecord { operation, d, a, b, byte, index, word } = given;
+    let FlatRecord { operation, d, a, b, byte, index, word, rows, columns, row, column } = given;
     let record = match operation {
         1 => Record::Get { d, n: word },
         2 => Record::Give { a },
@@ -208,6 +222,7 @@ fn structured(given: FlatRecord) -> Record {
         10 => Record::Unlock { a },
         11 => Record::Again { d, k: index },
         12 => Record::Set { d, n: word },
+        13 => Record::Grid { d, a, rows, columns, row, column },
         _ => panic!("the reader gave operation {operation}"),
     };
     assert_eq!(flat(record), given, "a field that the operation lacks is not 0");

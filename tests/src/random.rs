@@ -249,9 +249,57 @@ fn stored(rng: &mut Rng, w: u8) -> u32 {
     }
 }
 
+/// How many bytes a table has from an address to its block's end, damaged or not; of an address that is sought elsewhere
+/// or nowhere, those of some block.
+fn left_at(rng: &mut Rng, table: &[u8], p: u32) -> u32 {
+    let offset = p.wrapping_sub(BASE);
+    match table.get(offset as usize / 16).map_or(0, |entry| entry & !LOCK) {
+        order @ 4..=16 => (1 << order) - offset % (1 << order),
+        _ => 1 << rng.within(4, 8),
+    }
+}
+
+/// Rows and columns of a grid where so many bytes are left: it just fits or misses by one, or it has any number of
+/// bytes, or none.
+fn shape(rng: &mut Rng, left: u32) -> (u32, u32) {
+    let wanted = (left + rng.pick(&[0, 0, 1])).saturating_sub(rng.pick(&[0, 0, 0, 1])).max(1);
+    let exact = |rows: &u32| wanted.is_multiple_of(*rows) && wanted / rows <= 255;
+    match rng.below(8) {
+        0 => (rng.byte().into(), rng.byte().into()),
+        1 => (rng.within(1, 4), rng.within(1, 8)),
+        2 => rng.pick(&[(0, 3), (3, 0), (0, 0), (1, 1), (1, 255), (255, 1), (255, 255)]),
+        _ => match (1..=255).filter(exact).collect::<Vec<u32>>()[..] {
+            [] => {
+                let rows = rng.within(1, 255);
+                (rows, (wanted / rows).clamp(1, 255))
+            }
+            ref rows => {
+                let rows = rng.pick(rows);
+                (rows, wanted / rows)
+            }
+        },
+    }
+}
+
+/// Rows, columns, row and column of a grid where so many bytes are left. The place is the first or the last, any other,
+/// or one past the last row or column.
+fn grid(rng: &mut Rng, left: u32) -> [u8; 4] {
+    let (rows, columns) = shape(rng, left);
+    let (last_row, last_column) = (rows.saturating_sub(1), columns.saturating_sub(1));
+    let (row, column) = match rng.below(10) {
+        0 => (rows, rng.below(columns + 1)),
+        1 => (rng.below(rows + 1), columns),
+        2 => (rng.byte().into(), rng.byte().into()),
+        3 | 4 => (0, 0),
+        5 | 6 => (last_row, last_column),
+        _ => (rng.within(0, last_row), rng.within(0, last_column)),
+    };
+    [rows, columns, row, column].map(|number| number as u8)
+}
+
 /// A call on a heap with this table; `known` are values that earlier calls gave.
 pub fn call(rng: &mut Rng, table: &[u8], m: u32, known: &[u32]) -> Call {
-    match rng.below(13) {
+    match rng.below(14) {
         0..=2 => Call::Get { n: amount(rng, m) },
         3 => Call::Give { p: pointer(rng, table, known) },
         4 | 5 => Call::Step { p: pointer(rng, table, known), i: distance(rng, m) },
@@ -273,7 +321,13 @@ pub fn call(rng: &mut Rng, table: &[u8], m: u32, known: &[u32]) -> Call {
         }
         10 => Call::Fill { p: pointer(rng, table, known), v: rng.byte(), n: amount(rng, m) },
         11 => Call::Lock { p: pointer(rng, table, known) },
-        _ => Call::Unlock { p: pointer(rng, table, known) },
+        12 => Call::Unlock { p: pointer(rng, table, known) },
+        _ => {
+            let p = pointer(rng, table, known);
+            let left = left_at(rng, table, p);
+            let [rows, columns, row, column] = grid(rng, left);
+            Call::Grid { p, rows, columns, row, column }
+        }
     }
 }
 
@@ -294,7 +348,7 @@ fn record_of(rng: &mut Rng, m: u32, d: u8, a: u8, b: u8) -> Record {
         let (k, n) = (rng.word() as u16, repeats(rng));
         return rng.pick(&[Record::Again { d, k }, Record::Set { d, n }]);
     }
-    match rng.below(12) {
+    match rng.below(13) {
         0..=2 => Record::Get { d, n: amount(rng, m) },
         3 => Record::Give { a },
         4 => Record::Step { d, a, i: distance(rng, m) },
@@ -307,8 +361,17 @@ fn record_of(rng: &mut Rng, m: u32, d: u8, a: u8, b: u8) -> Record {
         8 => Record::Copy { d: if rng.once_in(3) { d } else { 13 }, a, b, n: amount(rng, m) },
         9 => Record::Fill { d: if rng.once_in(3) { d } else { 12 }, a, v: rng.byte(), n: amount(rng, m) },
         10 => Record::Lock { a },
-        _ => Record::Unlock { a },
+        11 => Record::Unlock { a },
+        _ => grid_of(rng, m, d, a),
     }
+}
+
+/// A grid from the start of a block of any order, most of them small.
+fn grid_of(rng: &mut Rng, m: u32, d: u8, a: u8) -> Record {
+    let any = rng.within(4, m);
+    let left = 1 << rng.pick(&[4, 5, any]);
+    let [rows, columns, row, column] = grid(rng, left);
+    Record::Grid { d, a, rows, columns, row, column }
 }
 
 /// How often to go back: mostly a few times.
@@ -415,6 +478,26 @@ fn locked_block(rng: &mut Rng, m: u32, registers: u32) -> [Record; 8] {
     ]
 }
 
+/// Records that ask for places of grids in a new block: from its start and from a few bytes on, just fitting or not. Then
+/// one with the place, and one with the block.
+fn places(rng: &mut Rng, m: u32, registers: u32) -> [Record; 6] {
+    let [a, b, c] = [(); 3].map(|()| rng.below(registers) as u8);
+    let (size, on) = (1 << rng.within(4, m.min(7)), rng.within(0, 5));
+    let mut from = |d: u8, a: u8, left: u32| {
+        let [rows, columns, row, column] = grid(rng, left);
+        Record::Grid { d, a, rows, columns, row, column }
+    };
+    let (first, second) = (from(c, a, size), from(c, b, size - on));
+    [
+        Record::Get { d: a, n: size },
+        Record::Step { d: b, a, i: on },
+        first,
+        second,
+        record_of(rng, m, b, c, a),
+        record_of(rng, m, b, a, c),
+    ]
+}
+
 /// Gives each again the index of a record before it, and in one file of twelve now and then another. One that is the
 /// first record has none before it, and mostly becomes a set.
 fn aim(rng: &mut Rng, records: &mut [Record]) {
@@ -446,6 +529,7 @@ pub fn file(rng: &mut Rng, m: u32, most: u32) -> Vec<u8> {
             4 => records.extend(dead_and_marked(rng, m, registers)),
             5 => records.extend(read_and_marked(rng, m, registers)),
             6 => records.extend(repeated(rng, m, registers)),
+            7 => records.extend(places(rng, m, registers)),
             _ => records.push(record(rng, m, registers)),
         }
     }

@@ -15,6 +15,7 @@ pub enum Record {
     Unlock { a: u8 },
     Again { d: u8, k: u16 },
     Set { d: u8, n: u32 },
+    Grid { d: u8, a: u8, rows: u8, columns: u8, row: u8, column: u8 },
 }
 
 impl Record {
@@ -33,6 +34,7 @@ impl Record {
             Record::Unlock { .. } => "unlock",
             Record::Again { .. } => "again",
             Record::Set { .. } => "set",
+            Record::Grid { .. } => "grid",
         }
     }
 }

@@ -102,6 +102,7 @@ pub trait Subject {
     fn fill(arena: &mut [u8], table: &[u8], p: u32, v: u8, n: u32) -> Answer;
     fn lock(arena: &[u8], table: &mut [u8], p: u32) -> Answer;
     fn unlock(arena: &[u8], table: &mut [u8], p: u32) -> Answer;
+    fn grid(arena: &[u8], table: &[u8], p: u32, rows: u8, columns: u8, row: u8, column: u8) -> Answer;
     fn check(arena: &[u8], table: &[u8], h: u32, i: u32) -> Answer;
     fn show(arena: &[u8], table: &[u8], p: u32) -> Part;
     fn run(file: &[u8], arena: &mut [u8], table: &mut [u8], answers: &mut [u8], budget: u32) -> Ran;
@@ -171,6 +172,11 @@ impl Subject for Plain {
     #[inline(never)]
     fn unlock(arena: &[u8], table: &mut [u8], p: u32) -> Answer {
         heap::unlock::<false>(arena, table, p).into()
+    }
+
+    #[inline(never)]
+    fn grid(arena: &[u8], table: &[u8], p: u32, rows: u8, columns: u8, row: u8, column: u8) -> Answer {
+        heap::grid::<false>(arena, table, p, rows, columns, row, column).into()
     }
 
     #[inline(never)]

@@ -95,6 +95,7 @@ impl Twins {
             Call::Fill { v, n, .. } => Call::Fill { p, v, n },
             Call::Lock { .. } => Call::Lock { p },
             Call::Unlock { .. } => Call::Unlock { p },
+            Call::Grid { rows, columns, row, column, .. } => Call::Grid { p, rows, columns, row, column },
             Call::Step { .. } | Call::Left { .. } | Call::Copy { .. } => self.copy(rng),
         }
     }

@@ -61,6 +61,7 @@ fn numbers_are_alike() {
         ("OUTSIDE", Refusal::Outside.number() as usize),
         ("LOCKED", Refusal::Locked.number() as usize),
         ("NOT_BACK", Refusal::NotBack.number() as usize),
+        ("NOT_IN_GRID", Refusal::NotInGrid.number() as usize),
     ];
     let lines: String = expected.iter().map(|(name, number)| format!("{name} {number}\n")).collect();
     assert_eq!(program("tests/c/numbers.c", "c", &[]), lines);
@@ -99,6 +100,10 @@ mod library {
             ("record.byte", offset_of!(FlatRecord, byte)),
             ("record.index", offset_of!(FlatRecord, index)),
             ("record.word", offset_of!(FlatRecord, word)),
+            ("record.rows", offset_of!(FlatRecord, rows)),
+            ("record.columns", offset_of!(FlatRecord, columns)),
+            ("record.row", offset_of!(FlatRecord, row)),
+            ("record.column", offset_of!(FlatRecord, column)),
             ("place", size_of::<FlatPlace>()),
             ("place.record", offset_of!(FlatPlace, record)),
             ("place.next", offset_of!(FlatPlace, next)),
@@ -151,21 +156,28 @@ mod library {
         assert_eq!(linked("tests/c/registers.c", "c++"), lines);
     }
 
-    /// What an operation lacks is ignored, and index and word are fields of their own.
+    /// What an operation lacks is ignored, and index, word and a grid's four bytes are fields of their own.
     #[test]
     fn writer_takes_the_fields_of_the_operation() {
-        let full = FlatRecord { operation: 0, d: 3, a: 99, b: 99, byte: 99, index: 0x0102, word: 0x0304_0506 };
-        for (operation, bytes) in [(11, &[4, 11, 3, 1, 2][..]), (12, &[6, 12, 3, 3, 4, 5, 6])] {
+        let registers = FlatRecord { d: 3, a: 99, b: 99, byte: 99, ..FlatRecord::default() };
+        let numbers = FlatRecord { index: 0x0102, word: 0x0304_0506, ..registers };
+        let full = FlatRecord { rows: 21, columns: 22, row: 23, column: 24, ..numbers };
+        let written = [
+            (FlatRecord { operation: 11, ..full }, &[4, 11, 3, 1, 2][..]),
+            (FlatRecord { operation: 12, ..full }, &[6, 12, 3, 3, 4, 5, 6]),
+            (FlatRecord { operation: 13, a: 4, ..full }, &[7, 13, 3, 4, 21, 22, 23, 24]),
+        ];
+        for (record, bytes) in written {
             let mut out = [0xA5; 9];
             let value = bytes.len() as u32;
-            assert_eq!(write_flat(&mut out, FlatRecord { operation, ..full }), Answer { number: 0, value });
+            assert_eq!(write_flat(&mut out, record), Answer { number: 0, value });
             assert_eq!((&out[..bytes.len()], &out[bytes.len()..]), (bytes, &[0xA5; 9][bytes.len()..]));
         }
     }
 
     #[test]
     fn unknown_operations_are_refused_by_the_writer() {
-        for operation in [0, 13, 128, 255] {
+        for operation in [0, 14, 128, 255] {
             let mut out = [0xA5; 16];
             let record = FlatRecord { operation, d: 99, ..FlatRecord::default() };
             assert_eq!(write_flat(&mut out, record), Answer { number: 5, value: 0 });

@@ -6,6 +6,7 @@ use tulivombe_tests::call::Call;
 use tulivombe_tests::ledger::{can_refuse_records, damaged, sought, Ledger};
 use tulivombe_tests::literal::{each_call, ledger, Literal};
 use tulivombe_tests::plain::heap::{BASE, LOCK, MARK};
+use tulivombe_tests::plain::runner::SCREENFUL;
 use tulivombe_tests::plain::takes::VERSION;
 use tulivombe_tests::random::{self, append, times, Rng};
 use tulivombe_tests::record::Record;
@@ -87,6 +88,8 @@ impl Heap {
             Call::Fill { p, v: 9, n: 0 },
             Call::Lock { p },
             Call::Unlock { p },
+            Call::Grid { p, rows: 1, columns: 1, row: 0, column: 0 },
+            Call::Grid { p, rows: 255, columns: 255, row: 254, column: 254 },
         ];
         calls.into_iter().for_each(|call| self.answers::<S>(call, number));
         let what = format!("{}: {p}, {} bytes", S::NAME, self.arena.len());
@@ -105,6 +108,9 @@ impl Heap {
         }
         for (w, v) in [(1, 256), (2, 65_536)] {
             self.answers::<S>(Call::Write { p, w, v }, 12);
+        }
+        for (rows, columns) in [(0, 0), (0, 9), (9, 0), (3, 9), (9, 3)] {
+            self.answers::<S>(Call::Grid { p, rows, columns, row: 3, column: 3 }, 30);
         }
     }
 }
@@ -186,6 +192,7 @@ fn with(a: u8, number: u32) -> Vec<(Record, u32)> {
         Record::Fill { d: 3, a, v: 9, n: 0 },
         Record::Lock { a },
         Record::Unlock { a },
+        Record::Grid { d: 3, a, rows: 1, columns: 1, row: 0, column: 0 },
     ];
     records.map(|record| (record, number)).to_vec()
 }
@@ -201,6 +208,7 @@ fn records() -> Vec<(Record, u32)> {
     let dead = [
         (Record::Read { d: 3, a: 2, w: 3 }, 11),
         (Record::Write { a: 2, w: 1, v: 256 }, 12),
+        (Record::Grid { d: 3, a: 2, rows: 1, columns: 1, row: 0, column: 1 }, 30),
         (Record::Step { d: 3, a: 2, i: 8 }, 22),
         (Record::Copy { d: 3, a: 2, b: 0, n: 1 }, 22),
         (Record::Copy { d: 3, a: 0, b: 2, n: 1 }, 22),
@@ -216,12 +224,12 @@ fn records() -> Vec<(Record, u32)> {
     [first.to_vec(), with(2, 13), locked, with(2, 22), dead.to_vec(), with(4, 27), got_again].concat()
 }
 
-/// The records as a take.
+/// The records as a take, of which the panel gets as many as its screen can list.
 fn in_takes<S: Subject>(m: u32) {
-    let records = records();
-    let mut file = vec![VERSION, m as u8];
-    records.iter().for_each(|&(record, _)| append(&mut file, record));
-    for caller in [Caller::Upload, Caller::Panel] {
+    let all = records();
+    for (caller, records) in [(Caller::Upload, &all[..]), (Caller::Panel, &all[..SCREENFUL])] {
+        let mut file = vec![VERSION, m as u8];
+        records.iter().for_each(|&(record, _)| append(&mut file, record));
         let (mut arena, mut table) = (vec![0x5A; 1 << m], vec![0x5A; 1 << (m - 4)]);
         let mut answers = vec![0x5A; 5 * records.len()];
         let ran = caller.run::<S>(&file, &mut arena, &mut table, &mut answers, records.len() as u32);
@@ -310,7 +318,7 @@ fn every_way() -> Met {
     let mut all = Met::new();
     for (name, numbers) in can_refuse_records().into_iter().filter(|(_, numbers)| numbers.contains(&13)) {
         for (kinds, number) in kinds_of(name).into_iter().chain([(vec![DAMAGED], 20)]) {
-            let first = numbers.iter().copied().filter(|number| [11, 12].contains(number));
+            let first = numbers.iter().copied().filter(|number| [11, 12, 30].contains(number));
             all.extend(first.chain([number]).map(|number| (name, kinds.clone(), number)));
         }
         all.insert((name, vec![LOCKED], 13));

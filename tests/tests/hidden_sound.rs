@@ -42,6 +42,7 @@ impl Met {
         let into_it = !matches!(call, Call::Get { .. }) && block.holds(i64::from(call.pointers()[0]));
         self.count(&[
             ("stores and gives that its lock refuses", !given_back && into_it && number == 28),
+            ("grids in it", !given_back && into_it && accepted && matches!(call, Call::Grid { .. })),
             ("copies within", !given_back && into && moved > Some(0)),
             ("copies of 0 bytes out", !given_back && !into && moved == Some(0)),
             // past the block's end, and to a pointer without a home, of either kind: lengths and table are good

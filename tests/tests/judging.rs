@@ -1,5 +1,5 @@
 //! The refusals of each call, in judging order: the lists in the header and in the manual are those of the ledger. Also
-//! the manual's examples of a missing home, of a marked pointer and of a lock.
+//! the manual's examples of a missing home, of a marked pointer, of a lock and of a grid.
 
 use std::collections::BTreeMap;
 use tulivombe_tests::call::Call;
@@ -77,15 +77,18 @@ fn call(question: &str) -> Call {
         "fill" => Call::Fill { p: word(0), v: byte(1), n: word(2) },
         "lock" => Call::Lock { p: word(0) },
         "unlock" => Call::Unlock { p: word(0) },
+        "grid" => Call::Grid { p: word(0), rows: byte(1), columns: byte(2), row: byte(3), column: byte(4) },
         other => panic!("another call: {other}"),
     }
 }
 
-/// The manual's examples under a heading: calls, each with what it says of the answer.
+/// The manual's examples under a heading: calls, each with what it says of the answer. Other lines that stand in as far
+/// are of a drawing, and start with no word.
 fn examples(heading: &str) -> Vec<(Call, Answer)> {
     let manual = manual();
     let (_, after) = manual.split_once(&format!("\n## {heading}\n")).expect("the manual has the heading");
-    let lines = after.lines().take_while(|line| !line.starts_with("## ")).filter(|line| line.starts_with("    "));
+    let indented = |line: &&str| line.strip_prefix("    ").is_some_and(|rest| rest.starts_with(char::is_alphabetic));
+    let lines = after.lines().take_while(|line| !line.starts_with("## ")).filter(indented);
     let example = |line: &str| match (line.split_once(" gives "), line.split_once(" is refused ")) {
         (Some((question, value)), None) => (call(question), Answer { number: 0, value: numbers(value)[0] }),
         (None, Some((question, number))) => (call(question), Answer { number: numbers(number)[0], value: 0 }),
@@ -133,4 +136,17 @@ fn the_manuals_examples_of_locks() {
     }
     let refused = examples.iter().filter(|(_, answer)| answer.number == 28).map(|(call, _)| call.name());
     assert_eq!(refused.collect::<Vec<_>>(), ["write", "fill", "copy", "give"]);
+}
+
+/// Those of grids speak of a block of 64 bytes.
+#[test]
+fn the_manuals_examples_of_grids() {
+    let mut ledger = Ledger::new(7);
+    assert_eq!(ledger.feed(Call::Get { n: 64 }), Answer { number: 0, value: 65_536 });
+    let mut met = BTreeMap::<_, u32>::new();
+    for (call, answer) in examples("Patterns as grids") {
+        assert_eq!(ledger.feed(call), answer, "{call:?}");
+        *met.entry((call.name(), answer.number)).or_default() += 1;
+    }
+    assert_eq!(met, [(("grid", 0), 4), (("grid", 25), 2), (("grid", 30), 2)].into());
 }

@@ -176,13 +176,15 @@ fn refused_locks<S: Subject>(m: u32) {
     }
 }
 
-/// Reads, steps, lefts, check and show give on a locked block what they give on the same one unlocked.
+/// Reads, steps, lefts, grids, check and show give on a locked block what they give on the same one unlocked.
 fn as_before<S: Subject>(m: u32) {
     let (heap, unlocked) = (Heap::locked::<S>(m), Heap::new::<S>(m));
     for p in heap.addresses() {
         let steps = [0, 1, heap.half, heap.half + 7, heap.half + 8, 8u32.wrapping_neg(), 9u32.wrapping_neg()];
         let calls = steps.map(|i| Call::Step { p, i }).into_iter();
         let calls = calls.chain([1, 2, 4].map(|w| Call::Read { p, w })).chain([Call::Left { p }]);
+        let grids = [1, 2, 16].map(|columns| Call::Grid { p, rows: 1, columns, row: 0, column: columns - 1 });
+        let calls = calls.chain(grids);
         calls.for_each(|call| assert_eq!(heap.asked::<S>(call), unlocked.asked::<S>(call), "{}: {call:?}", S::NAME));
         for i in steps {
             let inside = i64::from(p) + i64::from(i as i32) - i64::from(BASE);
@@ -262,6 +264,7 @@ fn is_damaged<S: Subject>(table: &[u8]) -> bool {
     assert_eq!(S::give(&arena, &mut lent, 0).number, expected, "{}: give, {table:?}", S::NAME);
     assert_eq!(S::lock(&arena, &mut lent, 0).number, expected, "{}: lock, {table:?}", S::NAME);
     assert_eq!(S::unlock(&arena, &mut lent, 0).number, expected, "{}: unlock, {table:?}", S::NAME);
+    assert_eq!(S::grid(&arena, &lent, 0, 1, 1, 0, 0).number, expected, "{}: grid, {table:?}", S::NAME);
     assert_eq!(S::get(&mut arena, &mut lent, 1).number == 20, damaged, "{}: get, {table:?}", S::NAME);
     damaged
 }
@@ -324,6 +327,9 @@ fn records() -> Vec<(Record, u32, u32)> {
         (Record::Give { a: 0 }, 28, 0),
         (Record::Read { d: 4, a: 0, w: 2 }, 0, 0x0102),
         (Record::Left { d: 5, a: 2 }, 0, 3),
+        (Record::Grid { d: 9, a: 0, rows: 4, columns: 4, row: 3, column: 1 }, 0, BASE + 13),
+        (Record::Grid { d: 9, a: 2, rows: 2, columns: 2, row: 0, column: 0 }, 25, 0),
+        (Record::Write { a: 9, w: 1, v: 9 }, 28, 0),
         (Record::Step { d: 6, a: 0, i: 8u32.wrapping_neg() }, 0, (BASE - 8) | MARK),
         (Record::Lock { a: 6 }, 13, 0),
         (Record::Unlock { a: 6 }, 13, 0),
@@ -363,7 +369,7 @@ fn in_takes<S: Subject>(m: u32) {
     records().into_iter().for_each(|(record, _, _)| append(&mut file, record));
     let expected = as_bytes(records().into_iter().map(|(_, number, value)| (number, value)));
     let mut registers = [0; 16];
-    let held = [BASE, BASE + 16, BASE + 13, 3, 0x0102, 3, (BASE - 8) | MARK, BASE, 2];
+    let held = [BASE, BASE + 16, BASE + 13, 3, 0x0102, 3, (BASE - 8) | MARK, BASE, 2, BASE + 13];
     registers[..held.len()].copy_from_slice(&held);
     for caller in [Caller::Upload, Caller::Panel] {
         let (mut arena, mut table) = (vec![0x5A; 1 << m], vec![LOCK | 4; 1 << (m - 4)]);
@@ -400,7 +406,7 @@ fn in_replays<S: Subject>(m: u32) {
     assert_eq!(S::replay(&mut arena, &mut table, &list, &mut out), 0, "{}", S::NAME);
     assert_eq!(out, expected, "{}: replay, m = {m}", S::NAME);
     assert!((arena, table) == left_by_them(m), "{}: the buffers after a replay, m = {m}", S::NAME);
-    for operation in [0, 11, 12, 255] {
+    for operation in [0, 11, 12, 14, 255] {
         list[4 * 14] = operation;
         assert_eq!(S::replay(&mut vec![0; 1 << m], &mut vec![0; 1 << (m - 4)], &list, &mut out), 5, "{}", S::NAME);
     }
@@ -487,7 +493,7 @@ fn meet(met: &mut Met, before: &Ledger, call: Call, number: u32) {
 
 /// That each call meets a locked block with every number that can then refuse it.
 fn every_way() -> Met {
-    let numbers: [(_, &[u32]); 11] = [
+    let numbers: [(_, &[u32]); 12] = [
         ("give", &[23, 28]),
         ("step", &[0, 24]),
         ("read", &[0, 11, 25]),
@@ -497,6 +503,7 @@ fn every_way() -> Met {
         ("fill", &[28]),
         ("lock", &[0]),
         ("unlock", &[0]),
+        ("grid", &[0, 25, 30]),
         ("of 0 bytes", &[28]),
         ("copy out", &[0]),
     ];

@@ -64,6 +64,7 @@ impl Heap {
             Call::Fill { p, v: 9, n: 0 },
             Call::Lock { p },
             Call::Unlock { p },
+            Call::Grid { p, rows: 1, columns: 1, row: 0, column: 0 },
         ];
         calls.into_iter().for_each(|call| assert_eq!(self.made::<S>(call), number, "{what}: {call:?}"));
         let checked = Answer { number, value: u32::from(number == 0) };
@@ -141,6 +142,7 @@ fn judged_before<S: Subject>(mut heap: Heap) {
         assert_eq!(heap.made::<S>(Call::Read { p, w: 3 }), 11, "{}", S::NAME);
         assert_eq!(heap.made::<S>(Call::Write { p, w: 3, v: 256 }), 11, "{}", S::NAME);
         assert_eq!(heap.made::<S>(Call::Write { p, w: 1, v: 256 }), 12, "{}", S::NAME);
+        assert_eq!(heap.made::<S>(Call::Grid { p, rows: 2, columns: 2, row: 2, column: 0 }), 30, "{}", S::NAME);
         assert_eq!(S::left(&heap.arena, &heap.table[1..], p).number, 8, "{}", S::NAME);
     }
     *heap.table.last_mut().expect("a table has slots") = 3;
@@ -148,6 +150,7 @@ fn judged_before<S: Subject>(mut heap: Heap) {
         assert_eq!(heap.made::<S>(Call::Left { p }), 20, "{}", S::NAME);
         assert_eq!(heap.made::<S>(Call::Step { p: p | MARK, i: 0 }), 20, "{}", S::NAME);
         assert_eq!(heap.made::<S>(Call::Copy { p, q: BASE, n: 1 }), 20, "{}", S::NAME);
+        assert_eq!(heap.made::<S>(Call::Grid { p, rows: 1, columns: 1, row: 0, column: 0 }), 20, "{}", S::NAME);
         assert_eq!(S::check(&heap.arena, &heap.table, p, 0).number, 20, "{}", S::NAME);
         assert_eq!(S::show(&heap.arena, &heap.table, p).number, 20, "{}", S::NAME);
     }
@@ -163,9 +166,12 @@ fn in_takes<S: Subject>(m: u32) {
         (Record::Write { a: 0, w: 4, v: end }, 0),
         (Record::Read { d: 1, a: 0, w: 4 }, 0),
         (Record::Left { d: 2, a: 1 }, 27),
+        (Record::Grid { d: 2, a: 1, rows: 1, columns: 1, row: 0, column: 0 }, 27),
         (Record::Write { a: 0, w: 4, v: end - 1 }, 0),
         (Record::Read { d: 2, a: 0, w: 4 }, 0),
         (Record::Left { d: 3, a: 2 }, 22),
+        (Record::Grid { d: 3, a: 2, rows: 255, columns: 255, row: 0, column: 0 }, 22),
+        (Record::Grid { d: 3, a: 2, rows: 255, columns: 255, row: 255, column: 0 }, 30),
         (Record::Copy { d: 3, a: 1, b: 2, n: 1 }, 27),
         (Record::Copy { d: 3, a: 2, b: 1, n: 1 }, 27),
         (Record::Copy { d: 3, a: 0, b: 2, n: 1 }, 22),

@@ -8,11 +8,11 @@ use tulivombe_tests::subject::{Caller, Plain, Subject};
 
 const SIZE: usize = 256;
 
-/// A take for an arena of 256 bytes whose records make all ten calls, most of them accepted.
+/// A take for an arena of 256 bytes whose records make all eleven calls, most of them accepted.
 fn take(records: usize) -> Vec<u8> {
     let record = |k: u8| {
-        let (d, n) = (k / 10 % 8, u32::from(k));
-        match k % 10 {
+        let (d, n) = (k / 11 % 8, u32::from(k));
+        match k % 11 {
             0 => Record::Get { d, n: 1 + n % 32 },
             1 => Record::Fill { d: 8, a: d, v: k, n: 9 },
             2 => Record::Step { d: 9, a: d, i: n % 20 },
@@ -22,6 +22,7 @@ fn take(records: usize) -> Vec<u8> {
             6 => Record::Left { d: 11, a: 9 },
             7 => Record::Copy { d: 12, a: 0, b: d, n },
             8 => Record::Unlock { a: d },
+            9 => Record::Grid { d: 13, a: d, rows: 1 + d, columns: 3, row: d, column: k % 3 },
             _ => Record::Give { a: d / 2 },
         }
     };
@@ -51,7 +52,7 @@ const FAULTS: [Fault; 9] =
 fn file(records: usize, fault: Fault) -> Vec<u8> {
     let last: &[u8] = match fault {
         RecordLength => &[0],
-        Operation => &[2, 13, 0],
+        Operation => &[2, 14, 0],
         OperationLength => &[3, 2, 0, 0],
         Register => &[2, 2, 16],
         NotBack => &[4, 11, 0, 255, 255],

@@ -6,7 +6,7 @@ use std::process::{Command, Output};
 use tulivombe_tests::literal::Literal;
 use tulivombe_tests::plain::takes;
 use tulivombe_tests::record::Record;
-use tulivombe_tests::subject::Plain;
+use tulivombe_tests::subject::{Plain, Subject};
 use tulivombe_tests::vectors::{bytes, root, takerun, text};
 
 /// `./run` with arguments, started in another folder than the repository.
@@ -74,6 +74,7 @@ fn spelled(record: Record) -> String {
         Record::Unlock { a } => format!("unlock r{a}"),
         Record::Again { d, k } => format!("again r{d} {k}"),
         Record::Set { d, n } => format!("set r{d} {n}"),
+        Record::Grid { d, a, rows, columns, row, column } => format!("grid r{d} r{a} {rows} {columns} {row} {column}"),
     }
 }
 
@@ -116,7 +117,7 @@ fn prints_in_some_order(file: &[u8], mut lines: Vec<&str>) {
 
 #[test]
 fn texts_of_the_examples() {
-    ["demo", "roll"].into_iter().for_each(text_says_what_the_take_does);
+    ["demo", "roll", "pattern"].into_iter().for_each(text_says_what_the_take_does);
 }
 
 /// The manual's tables of takes: in a row the bytes of a record and the lines that it prints.
@@ -132,6 +133,22 @@ fn takes_of_the_manual() {
         let file: Vec<u8> = columns.iter().flat_map(|row| quoted(row[0])).flat_map(from_hexadecimal).collect();
         prints_in_some_order(&file, columns.iter().flat_map(|row| quoted(row[2])).collect());
     }
+}
+
+/// The manual's drawing of a pattern: a line with bars for each track, an empty cell for 0.
+fn drawn(manual: &str) -> Vec<u8> {
+    let drawing = manual.split("```\n").nth(1).expect("the manual draws a pattern");
+    let tracks = drawing.lines().filter(|line| line.contains('|'));
+    let cells = tracks.flat_map(|track| track.split('|').skip(1).take(16).map(str::trim));
+    cells.map(|cell| if cell.is_empty() { 0 } else { cell.parse().expect("a byte") }).collect()
+}
+
+#[test]
+fn pattern_of_the_manual() {
+    let (mut arena, mut table, mut answers) = ([0; 64], [0; 4], [0; 5 * 24]);
+    let ran = Plain::run(&bytes(&root().join("examples/pattern.take")), &mut arena, &mut table, &mut answers, 24);
+    assert_eq!((ran.number, ran.count), (0, 24));
+    assert_eq!(arena[..], drawn(&text(&root().join("docs/MANUAL.md"))));
 }
 
 /// The proved program, which `./run` has built where it was not.
@@ -163,8 +180,10 @@ mod proved {
     fn run_and_takerun_print_what_the_paper_and_the_vectors_say() {
         let demonstration = bytes(&root().join("examples/demo.take"));
         prints(&run(&[]), &takerun::<Literal>(&demonstration), "./run");
-        let roll = root().join("examples/roll.take");
-        prints(&run(&[&roll]), &takerun::<Literal>(&bytes(&roll)), "the roll");
+        for name in ["roll", "pattern"] {
+            let example = root().join("examples").join(name).with_extension("take");
+            prints(&run(&[&example]), &takerun::<Literal>(&bytes(&example)), name);
+        }
         prints(&run(&[&kept("worked.take", &from_hexadecimal(WORKED))]), PRINTED, "the worked take");
         prints(&run(&[&kept("empty.take", b"")]), "refused 1\n", "an empty file");
         for (take, printed) in stored().iter().flat_map(|text| text.takes()) {

@@ -9,12 +9,17 @@ use Rattle.takes.specs.Operations.{known}
 use Rattle.takes.specs.Reading.{Given}
 use Rattle.takes.specs.Writing.{WriteOutcome, writeRecord}
 use Rattle.takes.specs.declared.Record.{Record}
-use Rattle.takes.specs.declared.Record.the-variants.{Get, Give, Step, Read, Write, Left, Copy, Fill, Lock, Unlock, Again, Set}
+use Rattle.takes.specs.declared.Record.the-variants.{Get, Give, Step, Read, Write, Left, Copy, Fill, Lock, Unlock, Again, Set, Grid}
 use Rattle.cabi.specs.declared.FlatRecord.{FlatRecord}
 use Rattle.cabi.specs.declared.FlatReading.{FlatReading}
 
+-- a record that is no grid, and a grid
 abbrev pub flatOf : (operation d a b byte index word : ℕ) → FlatRecord
-flatOf o d a b y k w = record { operation = o; d = d; a = a; b = b; byte = y; index = k; word = w }
+flatOf o d a b y k w = record { operation = o; d = d; a = a; b = b; byte = y; index = k; word = w; rows = 0; columns = 0; row = 0; column = 0 }
+
+abbrev pub flatGrid : (d a rows columns row column : ℕ) → FlatRecord
+flatGrid d a rows columns row column =
+    record { operation = 13; d = d; a = a; b = 0; byte = 0; index = 0; word = 0; rows = rows; columns = columns; row = row; column = column }
 
 -- a field that the operation lacks is 0
 abbrev pub flat : Record → FlatRecord
@@ -30,6 +35,7 @@ flat (Lock a) = flatOf 9 0 a 0 0 0 0
 flat (Unlock a) = flatOf 10 0 a 0 0 0 0
 flat (Again d k) = flatOf 11 d 0 0 0 k 0
 flat (Set d n) = flatOf 12 d 0 0 0 0 n
+flat (Grid d a rows columns row column) = flatGrid d a rows columns row column
 
 -- no record is all 0
 abbrev pub flatFound : Option Record → FlatRecord
@@ -52,7 +58,8 @@ recordAs op f =
     (cond (eqb op 8) (Fill (f .d) (f .a) (f .byte) (f .word))
     (cond (eqb op 9) (Lock (f .a))
     (cond (eqb op 10) (Unlock (f .a))
-    (cond (eqb op 11) (Again (f .d) (f .index)) (Set (f .d) (f .word))))))))))))
+    (cond (eqb op 11) (Again (f .d) (f .index))
+    (cond (eqb op 12) (Set (f .d) (f .word)) (Grid (f .d) (f .a) (f .rows) (f .columns) (f .row) (f .column)))))))))))))
 
 abbrev pub recordFromFlat : FlatRecord → Record
 recordFromFlat f = recordAs (f .operation) f

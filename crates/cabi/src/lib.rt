@@ -2,6 +2,7 @@
 // and length. What C sees of it stands in include/tulivombe.h.
 use blocks::BASE;
 use heap::Answer;
+use heap::operations;
 use heap::registers::Registers;
 use runner::Ran;
 use takes::Reading;
@@ -12,14 +13,14 @@ ghost use mathlib.Core.Bool.{true, false};
 ghost use lib.ListN.{length};
 ghost use Rattle.heap.specs.Heaps.{heapOf, outcome, heapCall, heapFresh, heapCheck};
 ghost use Rattle.heap.specs.Registers.{putTo, putIn};
-ghost use Rattle.heap.specs.declared.Call.the-variants.{Get, Give, Step, Read, Write, Left, Copy, Fill, SetLock};
+ghost use Rattle.heap.specs.declared.Call.the-variants.{Get, Give, Step, Read, Write, Left, Copy, Fill, SetLock, Grid};
 ghost use Rattle.history.specs.Replaying.{replayed, replayOf};
 ghost use Rattle.runner.specs.TakeRuns.{screenful, runOf, panelOf, ranTo};
 ghost use Rattle.runner.specs.Budgets.{Counted};
 ghost use Rattle.takes.specs.Files.{recordsOf};
 ghost use Rattle.takes.specs.Reading.{readAt};
 ghost use Rattle.takes.specs.Writing.{writeHead};
-ghost use Rattle.cabi.specs.Flat.{flatOf, flat, flatReading, recordFromFlat, writeOutcomeBy, writeFlat};
+ghost use Rattle.cabi.specs.Flat.{flatOf, flatGrid, flat, flatReading, recordFromFlat, writeOutcomeBy, writeFlat};
 ghost use Rattle.cabi.specs.Parts.{partOf};
 
 // A part of the lent arena, by its offset: an exported function returns no reference.
@@ -40,6 +41,10 @@ pub struct FlatRecord {
     pub byte: u8,
     pub index: u16,
     pub word: u32,
+    pub rows: u8,
+    pub columns: u8,
+    pub row: u8,
+    pub column: u8,
 }
 
 // What the reader gives: the record and the next place, or a number and all else 0.
@@ -125,6 +130,22 @@ pub extern "C" fn tulivombe_unlock(arena: &[u8], table: &mut [u8], p: u32) -> An
     ensures { λ r. ⌜ outcome r (now (arena .entry)) (now (table .exit)) ≡ heapCall (SetLock p false) (heapOf (now (arena .entry)) (now (table .entry))) ⌝ }
 {
     heap::unlock(arena, table, p)
+}
+
+#[no_mangle]
+pub extern "C" fn tulivombe_grid(
+    arena: &[u8],
+    table: &[u8],
+    p: u32,
+    rows: u8,
+    columns: u8,
+    row: u8,
+    column: u8,
+) -> Answer
+    ensures { λ r. ⌜ outcome r (now (arena .entry)) (now (table .entry))
+        ≡ heapCall (Grid p rows columns row column) (heapOf (now (arena .entry)) (now (table .entry))) ⌝ }
+{
+    heap::grid(arena, table, p, rows, columns, row, column)
 }
 
 #[no_mangle]
@@ -214,7 +235,7 @@ pub extern "C" fn tulivombe_replay(
     history::replay(arena, table, calls, out)
 }
 
-// A flat record of these fields, in the struct's order.
+// A flat record of these fields, in the struct's order, that is no grid.
 fn flat_record(operation: u8, d: u8, a: u8, b: u8, byte: u8, index: u16, word: u32) -> FlatRecord
     ensures { λ f. ⌜ f ≡ flatOf operation d a b byte index word ⌝ }
 {
@@ -226,6 +247,28 @@ fn flat_record(operation: u8, d: u8, a: u8, b: u8, byte: u8, index: u16, word: u
         byte,
         index,
         word,
+        rows: 0,
+        columns: 0,
+        row: 0,
+        column: 0,
+    }
+}
+
+fn flat_grid(d: u8, a: u8, rows: u8, columns: u8, row: u8, column: u8) -> FlatRecord
+    ensures { λ f. ⌜ f ≡ flatGrid d a rows columns row column ⌝ }
+{
+    FlatRecord {
+        operation: 13,
+        d,
+        a,
+        b: 0,
+        byte: 0,
+        index: 0,
+        word: 0,
+        rows,
+        columns,
+        row,
+        column,
     }
 }
 
@@ -245,6 +288,9 @@ fn flattened(r: Record) -> FlatRecord
         Record::Unlock(a) => flat_record(10, 0, a, 0, 0, 0, 0),
         Record::Again(d, k) => flat_record(11, d, 0, 0, 0, k, 0),
         Record::Set(d, n) => flat_record(12, d, 0, 0, 0, 0, n),
+        Record::Grid(d, a, rows, columns, row, column) => {
+            flat_grid(d, a, rows, columns, row, column)
+        }
     }
 }
 
@@ -278,7 +324,7 @@ pub extern "C" fn tulivombe_write_head(out: &mut [u8], m: u32) -> Answer
     }
 }
 
-// The record of an operation of the table, a set for any other number.
+// The record of an operation of the table, a grid for any other number.
 fn structured(f: FlatRecord) -> Record
     ensures { λ r. ⌜ r ≡ recordFromFlat f ⌝ }
 {
@@ -295,7 +341,8 @@ fn structured(f: FlatRecord) -> Record
         9 => Record::Lock(f.a),
         10 => Record::Unlock(f.a),
         11 => Record::Again(f.d, f.index),
-        _ => Record::Set(f.d, f.word),
+        12 => Record::Set(f.d, f.word),
+        _ => Record::Grid(f.d, f.a, f.rows, f.columns, f.row, f.column),
     }
 }
 
@@ -311,7 +358,7 @@ pub extern "C" fn tulivombe_write_record(out: &mut [u8], item: FlatRecord) -> An
             value: 0,
         };
     }
-    if takes::LAST_OPERATION < operation {
+    if operations::LAST < operation {
         return Answer {
             number: 5,
             value: 0,

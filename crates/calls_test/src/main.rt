@@ -15,14 +15,16 @@ const ARENA: usize = 65536;
 
 const TABLE: usize = 4096;
 
-const TEXT: usize = 16384;
+const TEXT: usize = 20480;
 
-// A line's word, by its first two bytes as one number, and the three numbers after it.
+// A line's word, by its first two bytes as one number, and the five numbers after it.
 struct Line {
     word: u32,
     a: u32,
     b: u32,
     c: u32,
+    d: u32,
+    e: u32,
 }
 
 // How many bytes of the arena and of the table are lent.
@@ -81,11 +83,15 @@ fn line_at(text: &[u8], at: usize) -> Line
     let a = past(text, at, b' ');
     let b = past(text, a, b' ');
     let c = past(text, b, b' ');
+    let d = past(text, c, b' ');
+    let e = past(text, d, b' ');
     Line {
         word,
         a: number(text, a),
         b: number(text, b),
         c: number(text, c),
+        d: number(text, d),
+        e: number(text, e),
     }
 }
 
@@ -136,7 +142,7 @@ fn answer_of(arena: &mut [u8], table: &mut [u8], l: Line) -> Answer {
     let b = l.b;
     let c = l.c;
     match word {
-        // fr, ge, gi, st, re, wr, le, co, fi, lo, un
+        // fr, ge, gi, st, re, wr, le, co, fi, lo, un, gr
         0x6672 => heap::fresh(arena, table),
         0x6765 => heap::get(arena, table, a),
         0x6769 => heap::give(arena, table, a),
@@ -148,6 +154,7 @@ fn answer_of(arena: &mut [u8], table: &mut [u8], l: Line) -> Answer {
         0x6669 => heap::fill(arena, table, a, low(b), c),
         0x6c6f => heap::lock(arena, table, a),
         0x756e => heap::unlock(arena, table, a),
+        0x6772 => heap::grid(arena, table, a, low(b), low(c), low(l.d), low(l.e)),
         _ => heap::check(arena, table, a, b),
     }
 }

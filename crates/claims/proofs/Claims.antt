@@ -4,6 +4,7 @@ use Rattle.heap.proofs.Edges.{edges}
 use Rattle.heap.proofs.Locking.{locking}
 use Rattle.heap.proofs.MissingKinds.{call-tells, check-tells, address-tells}
 use Rattle.heap.proofs.DeadAndMarked.{call-tells-marks, check-tells-marks, address-tells-marks}
+use Rattle.heap.proofs.Grids.{grid-places}
 use Rattle.history.proofs.Demand3.{demand3}
 use Rattle.history.proofs.MissingKinds.{ledger-tells}
 use Rattle.history.proofs.DeadAndMarked.{ledger-tells-marks}
@@ -37,4 +38,5 @@ claims =
       larger-budget = larger-keeps;
       judged-as-before = neither-judged-as-before;
       runs-as-before = neither-as-before;
+      grids = grid-places;
     }

@@ -13,6 +13,7 @@ use Rattle.heap.specs.Edges.{Edges}
 use Rattle.heap.specs.Locking.{Locking}
 use Rattle.heap.specs.MissingKinds.{pointersOf, Tells}
 use Rattle.heap.specs.DeadAndMarked.{plainPointers, TellsMarks}
+use Rattle.heap.specs.Grids.{GridPlaces}
 use Rattle.heap.specs.declared.Call.{Call}
 use Rattle.history.specs.Ledgers.{ledgerView, ledgerStep}
 use Rattle.history.specs.CallLists.{ledgerRun}
@@ -57,3 +58,5 @@ pub record Claims : Type 0 where
   pub larger-budget : LargerKeeps
   pub judged-as-before : NeitherJudgedAsBefore
   pub runs-as-before : NeitherAsBefore
+  -- request 10: two places of one grid never share an address, each is one of its bytes and has the home of its start; and with one place all are accepted
+  pub grids : (p rows columns : ℕ) → GridPlaces p rows columns

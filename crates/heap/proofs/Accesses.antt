@@ -22,12 +22,12 @@ use Rattle.blocks.proofs.Floors.{pow-split, floor-same}
 use Rattle.blocks.proofs.Referents.{referent-block, referent-from-zero}
 use Rattle.heap.specs.Views.{View, referentOfPointer, leftFrom}
 use Rattle.heap.specs.Rules.{badWidth, outsideArena, dead, plainRules, bothPlain, lockRules, argumentRules, stateRules}
-use Rattle.heap.specs.Effects.{value, stored}
+use Rattle.heap.specs.Effects.{gridAddress, value, stored}
 use Rattle.heap.specs.Heaps.{heapOf, heapView, entered, heapStep, outcome}
 use Rattle.heap.specs.Inner.{Sound, Ready, Holding, locatedBy, located, locatedPlain, numberIn}
 use Rattle.heap.specs.Changes.{changeOf}
 use Rattle.heap.specs.declared.Call.{Call}
-use Rattle.heap.specs.declared.Call.the-variants.{Read, Write, Left, Copy, Fill}
+use Rattle.heap.specs.declared.Call.the-variants.{Read, Write, Left, Copy, Fill, Grid}
 use Rattle.heap.specs.declared.Answer.{Answer}
 use Rattle.heap.specs.declared.refusals.Located.{Located}
 use Rattle.heap.specs.declared.refusals.Located.the-variants.{Refused, Inside}
@@ -205,6 +205,12 @@ module _ {t m p s e : ℕ} {a tab : List ℕ} where
         → {r : Answer} → r ≡ answer 0 0 → outcome r b tab ≡ heapStep t m (Write p w v) (heapOf a tab)
     unfolding stateRules value stored entered
     write-done d n x y = rw (y, x, o) (unlocked-accepted d (long-first d w _ refl fits) n)
+
+  pub grid-done : {rows columns row column : ℕ} → rows * columns ≤ leftIn (Found s e) p → Led t m (Grid p rows columns row column) a tab p s e
+      → {r : Answer} → r ≡ answer 0 (gridAddress p columns row column) → outcome r a tab ≡ heapStep t m (Grid p rows columns row column) (heapOf a tab)
+  unfolding stateRules value stored entered
+  grid-done {rows} {columns} {row} {column} fits d y =
+      rw y (step-accepted t m (Grid p rows columns row column) a tab (d .ready) (long-first d (rows * columns) [] refl fits))
 
   pub fill-last : {v n : ℕ} → Led t m (Fill p v n) a tab p s e
       → let w = heapView t m (heapOf a tab) in first (stateRules (Fill p v n) w) ≡ first (lockRules w p)

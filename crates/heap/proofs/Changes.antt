@@ -4,7 +4,7 @@ use mathlib.Core.Bool.{Bool}
 use mathlib.Core.Path.{_≡_, refl}
 use Rattle.heap.specs.Changes.{keeps, changeOf}
 use Rattle.heap.specs.declared.Call.{Call}
-use Rattle.heap.specs.declared.Call.the-variants.{Get, Give, Step, Read, Write, Left, Copy, Fill, SetLock}
+use Rattle.heap.specs.declared.Call.the-variants.{Get, Give, Step, Read, Write, Left, Copy, Fill, SetLock, Grid}
 
 pub data Changing : Call → Type 0 where
   gets : (n : ℕ) → Changing (Get n)
@@ -22,3 +22,4 @@ changing (Left p) = keeps-all refl
 changing (Copy p q n) = keeps-all refl
 changing (Fill p v n) = keeps-all refl
 changing (SetLock p l) = sets-lock p l
+changing (Grid p rows columns row column) = keeps-all refl

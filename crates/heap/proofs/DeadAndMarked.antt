@@ -15,7 +15,7 @@ use Rattle.heap.specs.Heaps.{Heap, viewOf, heapCall, pointerNumber, heap
 use Rattle.heap.specs.MissingKinds.{pointersOf, judgedBefore}
 use Rattle.heap.specs.DeadAndMarked.{plainPointers, TellsMarks}
 use Rattle.heap.specs.declared.Call.{Call}
-use Rattle.heap.specs.declared.Call.the-variants.{Get, Give, Step, Read, Write, Left, Copy, Fill, SetLock}
+use Rattle.heap.specs.declared.Call.the-variants.{Get, Give, Step, Read, Write, Left, Copy, Fill, SetLock, Grid}
 use Rattle.common.proofs.Booleans.{or-none, or-true-right}
 use Rattle.common.proofs.Refusals.{allOf, condOf, once, given, upTo, earlier, numbersTo, reached, one-of-more}
 use Rattle.heap.proofs.Judging.{call-number, address-number, check-number}
@@ -69,6 +69,7 @@ module _ (w : View) where
       }
   listed (Fill p v n) = single p _ refl refl refl refl refl
   listed (SetLock p l) = single p _ refl refl refl refl refl
+  listed (Grid p rows columns row column) = single p _ refl refl refl refl refl
 
   -- where one is marked that must be plain, they are all of the call's pointers
   all-plain : (c : Call) → anyOf marked (plainPointers c) ≡ true → pointersOf c ≡ plainPointers c
@@ -81,6 +82,7 @@ module _ (w : View) where
   all-plain (Copy p q n) x = refl
   all-plain (Fill p v n) x = refl
   all-plain (SetLock p l) x = refl
+  all-plain (Grid p rows columns row column) x = refl
 
   enough : (c : Call) → anyOf marked (plainPointers c) ≡ true → isOneOf (13 ∷ 22 ∷ 27 ∷ judgedBefore) (first (rules c w)) ≡ true
   enough c x =

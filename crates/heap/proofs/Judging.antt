@@ -26,7 +26,7 @@ use Rattle.heap.specs.Changes.{changeOf}
 use Rattle.heap.specs.Inner.{heapOrder, beforeCall, Sound, Ready}
 use Rattle.heap.specs.declared.Answer.{Answer}
 use Rattle.heap.specs.declared.Call.{Call}
-use Rattle.heap.specs.declared.Call.the-variants.{Get, Give, Step, Read, Write, Left, Copy, Fill, SetLock}
+use Rattle.heap.specs.declared.Call.the-variants.{Get, Give, Step, Read, Write, Left, Copy, Fill, SetLock, Grid}
 use Rattle.heap.proofs.Settling.{answer, settled-refused, settled-number}
 
 arguments-positive : (m : ℕ) (c : Call) → positive (argumentRules m c) ≡ true
@@ -40,6 +40,7 @@ arguments-positive m (Left p) = refl
 arguments-positive m (Copy p q n) = refl
 arguments-positive m (Fill p v n) = refl
 arguments-positive m (SetLock p l) = refl
+arguments-positive m (Grid p rows columns row column) = refl
 
 -- a call's rules: 8, the arguments' refusal n, 0 for none, 20, and the rest
 abbrev judging : Bool → ℕ → Bool → List Refusal → List Refusal

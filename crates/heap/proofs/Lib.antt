@@ -14,5 +14,6 @@ pub mod Showing
 pub mod MissingKinds
 pub mod DeadAndMarked
 pub mod Locking
+pub mod Grids
 pub mod AnswerBytes
 pub mod Changes

@@ -5,7 +5,7 @@ use Prim.Native.Nat.{ℕ, _-_, _/_, _^_, _≤_}
 use mathlib.Core.Path.{_≡_, refl, sym, _∙_, ap, subst}
 use mathlib.Core.Bool.{Bool, true, false, not, _&&_, _||_, false≢true}
 use mathlib.Core.Logic.{_⊎_, inl, inr}
-use mathlib.Core.List.{List, [], _∷_}
+use mathlib.Core.List.{List, [], _∷_, _++_}
 use native.Mathlib.Omega.{arith}
 use lib.IntN.{ℤ, pos, negsuc}
 use lib.ListN.{length}
@@ -19,7 +19,7 @@ use Rattle.heap.specs.Rules.{outsideArena, dead, argumentRules, stateRul
 use Rattle.heap.specs.Heaps.{Heap, heapView, viewOf, heapCall, pointerNumber, heapCheck}
 use Rattle.heap.specs.MissingKinds.{pointersOf, freeAt, atFreeSlot, judgedBefore, Tells}
 use Rattle.heap.specs.declared.Call.{Call}
-use Rattle.heap.specs.declared.Call.the-variants.{Get, Give, Step, Read, Write, Left, Copy, Fill, SetLock}
+use Rattle.heap.specs.declared.Call.the-variants.{Get, Give, Step, Read, Write, Left, Copy, Fill, SetLock, Grid}
 use Rattle.common.proofs.Booleans.{and-right, or-none, or-cases, or-right, or-false-left, or-false-right}
 use Rattle.common.proofs.Refusals.{allOf, condOf, once, given, upTo, earlier, numbersTo, reached, one-of-more}
 use Rattle.blocks.proofs.Outside.{missing-free}
@@ -85,6 +85,7 @@ module _ (w : View) where
       }
   listed (Fill p v n) = single p _ refl refl refl refl refl refl refl refl
   listed (SetLock p l) = single p _ refl refl refl refl refl refl refl refl
+  listed (Grid p rows columns row column) = single p _ refl refl refl refl refl refl refl refl
 
   -- by any view, 27 tells that a pointer is sought outside the arena, and 22 that one has no referent
   pub outside-told : (c : Call) → first (rules c w) ≡ 27 → anyOf (outsideArena w) (pointersOf c) ≡ true
@@ -93,10 +94,11 @@ module _ (w : View) where
   pub missing-told : (c : Call) → first (rules c w) ≡ 22 → anyOf (dead w) (pointersOf c) ≡ true
   missing-told c e = let on = listed c in sym (on .test-22) ∙ given 21 (rules c w) (on .once-22) e
 
--- a write has every number that is judged before a home is asked for
-pub judged-before : (p k v : ℕ) (w : View) → numbersTo 20 (rules (Write p k v) w) ≡ judgedBefore
+-- of the numbers that are judged before a home is asked for, a write or a grid has every one
+pub judged-before : (p k v rows columns row column : ℕ) (w : View)
+    → allOf (isOneOf (numbersTo 20 (rules (Write p k v) w) ++ numbersTo 20 (rules (Grid p rows columns row column) w))) judgedBefore ≡ true
 unfolding rules argumentRules stateRules
-judged-before p k v w = refl
+judged-before p k v rows columns row column w = refl
 
 -- of a table whose length fits, in slots of 2 ^ t
 module _ (t m : ℕ) (h : Heap) (low : t ≤ m) (slots : length (h .table) ≡ 2 ^ (m - t)) where

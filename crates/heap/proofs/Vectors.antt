@@ -3,14 +3,15 @@
 use Prim.Native.Nat.{ℕ}
 use mathlib.Core.Path.{_≡_, refl}
 use mathlib.Core.Bool.{Bool, true, false, _&&_}
-use mathlib.Core.List.{List, [], _∷_, _++_}
+use mathlib.Core.List.{List, [], _∷_, _++_, map}
 use lib.Dec.{eqb}
 use lib.ListN.{set, replicate}
 use Rattle.heap.specs.Rules.{addressRules}
 use Rattle.heap.specs.Heaps.{Heap, heapOf, heapCall, heapFresh, freshHeap, checkStep, heapCheck, pointerNumber, shown}
+use Rattle.heap.specs.OperationNumbers.{namesCall}
 use Rattle.heap.specs.declared.Answer.{Answer}
 use Rattle.heap.specs.declared.Call.{Call}
-use Rattle.heap.specs.declared.Call.the-variants.{Get, Give, Step, Read, Write, Left, Copy, Fill, SetLock}
+use Rattle.heap.specs.declared.Call.the-variants.{Get, Give, Step, Read, Write, Left, Copy, Fill, SetLock, Grid}
 use Rattle.heap.proofs.Computing.{computed}
 
 -- a line of a vector: a call with its number and value, a fresh, a check, a show with its number and bytes, an entry overwritten, a buffer
@@ -164,11 +165,42 @@ dead-and-marked : holdAt
 unfolding holdAt
 dead-and-marked = refl
 
+-- Request 10: a block of two slots and one of one. A grid that just fits the first, and one that misses by a byte, wherever its place lies; at the last byte;
+-- of 255 by 255; places in the row and the column after the last, and in grids without any; what refuses a pointer, and a locked block. In a damaged table a
+-- grid is 20, but for a place outside it.
+grids : holdAt
+    (answers (Get 20) 0 65536 ∷ answers (Get 16) 0 65568 ∷ answers (Grid 65536 4 8 0 0) 0 65536 ∷ answers (Grid 65536 4 8 2 3) 0 65555
+    ∷ answers (Grid 65536 4 8 3 7) 0 65567 ∷ answers (Grid 65536 8 4 2 3) 0 65547 ∷ answers (Grid 65537 4 8 0 0) 25 0
+    ∷ answers (Grid 65537 1 31 0 30) 0 65567 ∷ answers (Grid 65537 31 1 30 0) 0 65567 ∷ answers (Grid 65567 1 1 0 0) 0 65567
+    ∷ answers (Grid 65567 2 1 0 0) 25 0 ∷ answers (Grid 65536 1 255 0 0) 25 0 ∷ answers (Grid 65536 255 255 254 254) 25 0
+    ∷ answers (Grid 65536 4 8 4 0) 30 0 ∷ answers (Grid 65536 4 8 0 8) 30 0 ∷ answers (Grid 65536 0 8 0 0) 30 0 ∷ answers (Grid 65536 8 0 0 0) 30 0
+    ∷ answers (Grid 65584 2 2 0 0) 22 0 ∷ answers (Grid 65600 2 2 0 0) 27 0 ∷ answers (Grid 2147549232 1 1 0 0) 13 0
+    ∷ answers (Grid 2147549232 9 9 0 0) 13 0 ∷ answers (Grid 2147549248 1 1 0 0) 22 0 ∷ answers (Grid 2147483655 1 1 0 0) 27 0
+    ∷ answers (Grid 65600 1 1 1 0) 30 0 ∷ answers (SetLock 65536 true) 0 0 ∷ answers (Grid 65536 4 8 1 2) 0 65546 ∷ tableIs (133 ∷ 133 ∷ 4 ∷ 0 ∷ [])
+    ∷ arenaIs (replicate 64 0) ∷ pokes 3 1 ∷ answers (Grid 65536 1 1 0 0) 20 0 ∷ answers (Grid 65536 1 1 0 1) 30 0 ∷ [])
+    (freshHeap 6) ≡ true
+unfolding holdAt
+grids = refl
+
+-- the operations that name a call, of those from 0 to 14
+which-name-calls : map namesCall (0 ∷ 1 ∷ 2 ∷ 3 ∷ 4 ∷ 5 ∷ 6 ∷ 7 ∷ 8 ∷ 9 ∷ 10 ∷ 11 ∷ 12 ∷ 13 ∷ 14 ∷ [])
+    ≡ false ∷ true ∷ true ∷ true ∷ true ∷ true ∷ true ∷ true ∷ true ∷ true ∷ true ∷ false ∷ false ∷ true ∷ false ∷ []
+which-name-calls = refl
+
+-- a row of 255 and a column of 255, which fit a block of 256 at its first two addresses
+long-grids : holdAt
+    (answers (Get 255) 0 65536 ∷ answers (Grid 65536 1 255 0 254) 0 65790 ∷ answers (Grid 65537 1 255 0 254) 0 65791
+    ∷ answers (Grid 65537 255 1 254 0) 0 65791 ∷ answers (Grid 65538 1 255 0 0) 25 0 ∷ answers (Grid 65538 255 1 0 0) 25 0
+    ∷ answers (Grid 65536 1 255 0 255) 30 0 ∷ answers (Grid 65536 2 128 1 127) 0 65791 ∷ answers (Grid 65536 2 129 0 0) 25 0 ∷ [])
+    (freshHeap 8) ≡ true
+unfolding holdAt
+long-grids = refl
+
 -- lengths that are no heap's: 48 bytes, and a table of one entry too many
 wrong-arena : holdAt (answers (Get 1) 8 0 ∷ freshens 8 ∷ checks 65536 0 8 0 ∷ shows 65536 8 [] ∷ []) (heapOf (replicate 48 7) (replicate 3 0)) ≡ true
 unfolding holdAt
 wrong-arena = refl
 
-wrong-table : holdAt (answers (Left 65536) 8 0 ∷ freshens 8 ∷ []) (heapOf (replicate 32 7) (replicate 3 0)) ≡ true
+wrong-table : holdAt (answers (Left 65536) 8 0 ∷ answers (Grid 65536 1 1 1 1) 8 0 ∷ freshens 8 ∷ []) (heapOf (replicate 32 7) (replicate 3 0)) ≡ true
 unfolding holdAt
 wrong-table = refl

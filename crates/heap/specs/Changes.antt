@@ -2,7 +2,7 @@
 use Prim.Native.Nat.{ℕ}
 use mathlib.Core.Bool.{Bool}
 use Rattle.heap.specs.declared.Call.{Call}
-use Rattle.heap.specs.declared.Call.the-variants.{Get, Give, Step, Read, Write, Left, Copy, Fill, SetLock}
+use Rattle.heap.specs.declared.Call.the-variants.{Get, Give, Step, Read, Write, Left, Copy, Fill, SetLock, Grid}
 
 -- it adds a block for n bytes, removes the one that starts at p, locks or unlocks the one that holds p, or keeps the set
 pub data Change : Type 0 where
@@ -21,3 +21,4 @@ changeOf (Left p) = keeps
 changeOf (Copy p q n) = keeps
 changeOf (Fill p v n) = keeps
 changeOf (SetLock p l) = relocks p l
+changeOf (Grid p rows columns row column) = keeps

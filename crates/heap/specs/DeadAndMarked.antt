@@ -9,7 +9,7 @@ use Rattle.heap.specs.Views.{View}
 use Rattle.heap.specs.Rules.{outsideArena, dead}
 use Rattle.heap.specs.MissingKinds.{pointersOf, judgedBefore}
 use Rattle.heap.specs.declared.Call.{Call}
-use Rattle.heap.specs.declared.Call.the-variants.{Get, Give, Step, Read, Write, Left, Copy, Fill, SetLock}
+use Rattle.heap.specs.declared.Call.the-variants.{Get, Give, Step, Read, Write, Left, Copy, Fill, SetLock, Grid}
 
 -- all of a call's pointers; but a step takes marked ones
 abbrev pub plainPointers : Call → List ℕ
@@ -22,6 +22,7 @@ plainPointers (Left p) = pointersOf (Left p)
 plainPointers (Copy p q n) = pointersOf (Copy p q n)
 plainPointers (Fill p v n) = pointersOf (Fill p v n)
 plainPointers (SetLock p l) = pointersOf (SetLock p l)
+plainPointers (Grid p rows columns row column) = pointersOf (Grid p rows columns row column)
 
 pub record TellsMarks (w : View) (ps : List ℕ) (number : ℕ) : Type 0 where
   -- 13: one is marked, each has a referent, and the table is undamaged

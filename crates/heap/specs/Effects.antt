@@ -1,6 +1,6 @@
--- Document 01, "The eight calls", with requests 2, 3 and 7 of document 02: the value of a call that is not refused, and the bytes that it leaves.
+-- Document 01, "The eight calls", with requests 2, 3, 7 and 10 of document 02: the value of a call that is not refused, and the bytes that it leaves.
 -- Both are said over a view, for the heap and the ledger alike.
-use Prim.Native.Nat.{ℕ, zero, suc, _+_, _-_, _^_, min}
+use Prim.Native.Nat.{ℕ, zero, suc, _+_, _-_, _*_, _^_, min}
 use mathlib.Core.Bool.{Bool, cond}
 use mathlib.Core.List.{List}
 use lib.IntN.{ℤ, pos, negsuc}
@@ -12,7 +12,7 @@ use Rattle.blocks.specs.Pointers.{markBit, address, exactSum}
 use Rattle.heap.specs.Views.{View, leftFrom, neededFor, startFor}
 use Rattle.heap.specs.declared.Answer.{Answer}
 use Rattle.heap.specs.declared.Call.{Call}
-use Rattle.heap.specs.declared.Call.the-variants.{Get, Give, Step, Read, Write, Left, Copy, Fill, SetLock}
+use Rattle.heap.specs.declared.Call.the-variants.{Get, Give, Step, Read, Write, Left, Copy, Fill, SetLock, Grid}
 
 -- how many bytes a copy and a fill store
 abbrev pub copyCount : View → ℕ → ℕ → ℕ → ℕ
@@ -30,6 +30,10 @@ abbrev pub pointerAt : Bool → ℤ → ℕ
 pointerAt inside (pos r) = cond inside r (markBit + r)
 pointerAt inside (negsuc n) = 0
 
+-- the address of a place in a grid that starts at p, row by row
+abbrev pub gridAddress : (p columns row column : ℕ) → ℕ
+gridAddress p columns row column = p + row * columns + column
+
 unfoldable pub value : Call → View → List ℕ → ℕ
 value (Get n) w b = startFor n w
 value (Give p) w b = 0
@@ -40,6 +44,7 @@ value (Left p) w b = leftFrom w p
 value (Copy p q n) w b = copyCount w p q n
 value (Fill p v n) w b = fillCount w p n
 value (SetLock p l) w b = 0
+value (Grid p rows columns row column) w b = gridAddress p columns row column
 
 unfoldable pub stored : Call → View → List ℕ → List ℕ
 stored (Get n) w b = cleared b (startFor n w - base) (neededFor n w)
@@ -51,6 +56,7 @@ stored (Left p) w b = b
 stored (Copy p q n) w b = copied b (p - base) b (q - base) (copyCount w p q n)
 stored (Fill p v n) w b = over b (p - base) (replicate (fillCount w p n) v)
 stored (SetLock p l) w b = b
+stored (Grid p rows columns row column) w b = b
 
 -- the answer of a call that is not refused, and of one that is
 abbrev pub accepted : ℕ → Answer

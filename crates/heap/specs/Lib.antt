@@ -6,6 +6,7 @@ pub mod MissingKinds
 pub mod DeadAndMarked
 pub mod Heaps
 pub mod Locking
+pub mod Grids
 pub mod Inner
 pub mod Answers
 pub mod OperationNumbers

@@ -10,7 +10,7 @@ use Rattle.blocks.specs.Pointers.{sought, outsideAt}
 use Rattle.heap.specs.Views.{View}
 use Rattle.heap.specs.Rules.{outsideArena}
 use Rattle.heap.specs.declared.Call.{Call}
-use Rattle.heap.specs.declared.Call.the-variants.{Get, Give, Step, Read, Write, Left, Copy, Fill, SetLock}
+use Rattle.heap.specs.declared.Call.the-variants.{Get, Give, Step, Read, Write, Left, Copy, Fill, SetLock, Grid}
 
 abbrev pub pointersOf : Call → List ℕ
 pointersOf (Get n) = []
@@ -22,6 +22,7 @@ pointersOf (Left p) = p ∷ []
 pointersOf (Copy p q n) = p ∷ q ∷ []
 pointersOf (Fill p v n) = p ∷ []
 pointersOf (SetLock p l) = p ∷ []
+pointersOf (Grid p rows columns row column) = p ∷ []
 
 -- an exact address lies inside the arena, in a slot that is free
 abbrev pub freeAt : View → ℤ → Bool
@@ -32,9 +33,9 @@ freeAt w (negsuc n) = false
 abbrev pub atFreeSlot : View → ℕ → Bool
 atFreeSlot w p = freeAt w (sought (w .slot) p)
 
--- the numbers that are judged before a home is asked for: a write has them all (`judged-before` in heap/proofs)
+-- the numbers that are judged before a home is asked for: each is a write's or a grid's (`judged-before` in heap/proofs)
 abbrev pub judgedBefore : List ℕ
-judgedBefore = 8 ∷ 11 ∷ 12 ∷ 20 ∷ []
+judgedBefore = 8 ∷ 11 ∷ 12 ∷ 30 ∷ 20 ∷ []
 
 pub record Tells (w : View) (ps : List ℕ) (number : ℕ) : Type 0 where
   -- 27: a pointer is sought outside the arena. 22: none is, and one is sought at a free slot.

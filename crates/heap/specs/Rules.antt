@@ -1,6 +1,6 @@
--- Document 01, "Refused by the input" and "Refused by the state", with requests 6 to 8 of document 02: the refusals of each call, in the order in which they
--- are judged.
-use Prim.Native.Nat.{ℕ, _^_}
+-- Document 01, "Refused by the input" and "Refused by the state", with requests 6 to 8 and 10 of document 02: the refusals of each call, in the order in which
+-- they are judged.
+use Prim.Native.Nat.{ℕ, _*_, _^_}
 use mathlib.Core.Bool.{Bool, false, not, _||_}
 use mathlib.Core.List.{List, [], _∷_, _++_}
 use lib.Dec.{leb, ltb, eqb}
@@ -11,12 +11,12 @@ use Rattle.blocks.specs.declared.Referent.{Referent}
 use Rattle.blocks.specs.declared.Referent.the-variants.{Missing, Found}
 use Rattle.heap.specs.Views.{View, referentOfPointer, leftFrom, placeFor, noPlace}
 use Rattle.heap.specs.declared.Call.{Call}
-use Rattle.heap.specs.declared.Call.the-variants.{Get, Give, Step, Read, Write, Left, Copy, Fill, SetLock}
+use Rattle.heap.specs.declared.Call.the-variants.{Get, Give, Step, Read, Write, Left, Copy, Fill, SetLock, Grid}
 
 abbrev pub badWidth : ℕ → Bool
 badWidth k = not (eqb k 1 || (eqb k 2 || eqb k 4))
 
--- By the arguments alone, in an arena of 2 ^ m bytes: n of a get, the width k, v too large for its width.
+-- By the arguments alone, in an arena of 2 ^ m bytes: n of a get, the width k, v too large for its width, a place outside its grid.
 unfoldable pub argumentRules : ℕ → Call → List Refusal
 argumentRules m (Get n) = 10 when (eqb n 0 || ltb (2 ^ m) n) ∷ []
 argumentRules m (Give p) = []
@@ -27,6 +27,7 @@ argumentRules m (Left p) = []
 argumentRules m (Copy p q n) = []
 argumentRules m (Fill p v n) = []
 argumentRules m (SetLock p l) = []
+argumentRules m (Grid p rows columns row column) = 30 when (leb rows row || leb columns column) ∷ []
 
 -- a pointer's referent is sought outside the arena
 abbrev pub outsideArena : View → ℕ → Bool
@@ -72,8 +73,9 @@ stateRules (Left p) w = plainRules w p
 stateRules (Copy p q n) w = bothPlain w p q ++ lockRules w p
 stateRules (Fill p v n) w = plainRules w p ++ lockRules w p
 stateRules (SetLock p l) w = plainRules w p
+stateRules (Grid p rows columns row column) w = plainRules w p ++ (25 when ltb (leftFrom w p) (rows * columns) ∷ [])
 
--- All of them: 8, the arguments' (10 to 12), 20, the state's.
+-- All of them: 8, the arguments' (10 to 12, 30), 20, the state's.
 unfoldable pub rules : Call → View → List Refusal
 rules c w = 8 when w .wrong-sizes ∷ (argumentRules (w .order) c ++ (20 when w .damaged ∷ stateRules c w))
 

@@ -1,4 +1,4 @@
-// The heap: fresh, the ten calls, check and show, on an arena and a table that the caller lends. The ten and check judge their input,
+// The heap: fresh, the eleven calls, check and show, on an arena and a table that the caller lends. The eleven and check judge their input,
 // and then call their inner function in `unchecked`.
 use blocks::BASE;
 ghost use mathlib.Core.Path.{_≡_};
@@ -23,7 +23,8 @@ pub struct Answer {
     pub value: u32,
 }
 
-// A call with its arguments. The step's i is a signed number in two's complement. Lock and unlock are one, which sets the lock to what it says.
+// A call with its arguments. The step's i is a signed number in two's complement. Lock and unlock are one, which sets the lock to what it says. A grid has its
+// rows and columns, then the row and the column that are asked for.
 pub enum Call {
     Get(u32),
     Give(u32),
@@ -34,6 +35,7 @@ pub enum Call {
     Copy(u32, u32, u32),
     Fill(u32, u8, u32),
     SetLock(u32, bool),
+    Grid(u32, u8, u8, u8, u8),
 }
 
 // Makes the heap fresh: both buffers all zero.
@@ -183,6 +185,32 @@ pub fn unlock(arena: &[u8], table: &mut [u8], p: u32) -> Answer
     ensures { λ r. ⌜ outcome r (now (arena .entry)) (now (table .exit)) ≡ heapCall (Call.SetLock p false) (heapOf (now (arena .entry)) (now (table .entry))) ⌝ }
 {
     set_lock(arena, table, p, false)
+}
+
+// The address of a place in a grid of rows × columns bytes that starts at p and lies in its referent, row by row.
+pub fn grid(
+    arena: &[u8],
+    table: &[u8],
+    p: u32,
+    rows: u8,
+    columns: u8,
+    row: u8,
+    column: u8,
+) -> Answer
+    ensures { λ r. ⌜ outcome r (now (arena .entry)) (now (table .entry))
+        ≡ heapCall (Call.Grid p rows columns row column) (heapOf (now (arena .entry)) (now (table .entry))) ⌝ }
+{
+    let m = sizes::order_of(arena, table, SLOT_ORDER);
+    let number = refusals::before_call(
+        table,
+        SLOT_ORDER,
+        m,
+        refusals::arguments(m, Call::Grid(p, rows, columns, row, column)),
+    );
+    if number != 0 {
+        return answers::refused(number);
+    }
+    unchecked::grid(arena, table, SLOT_ORDER, m, p, rows, columns, row, column)
 }
 
 // The check of the plain address p and the step i: 1 where the sum stays in p's referent, else 0. It is in no list of calls and judges by its own short

@@ -3,7 +3,7 @@ use crate::Call;
 use blocks::Referent;
 ghost use mathlib.Core.Path.{_≡_};
 ghost use Prim.Native.Nat.{_-_, _^_, _≤_};
-ghost use mathlib.Core.Bool.{false};
+ghost use mathlib.Core.Bool.{false, _||_};
 ghost use mathlib.Core.List.{[], _∷_};
 ghost use lib.Dec.{leb};
 ghost use lib.ListN.{length};
@@ -65,6 +65,16 @@ fn request(m: u32, n: u32) -> u32
     0
 }
 
+// The refusal of a place that its grid does not have.
+fn grid_place(rows: u8, columns: u8, row: u8, column: u8) -> u32
+    ensures { λ r. ⌜ r ≡ first (30 when (leb rows row || leb columns column) ∷ []) ⌝ }
+{
+    if rows <= row {
+        return 30;
+    }
+    if columns <= column { 30 } else { 0 }
+}
+
 // The refusal of a call by its arguments alone, 0 for none. What refuses a pointer depends on where it leads, and is judged later (`locate_plain`).
 pub fn arguments(m: u32, c: Call) -> u32
     requires { ⌜ m ≤ 16 ⌝ }
@@ -80,6 +90,7 @@ pub fn arguments(m: u32, c: Call) -> u32
         Call::Copy(_, _, _) => 0,
         Call::Fill(_, _, _) => 0,
         Call::SetLock(_, _) => 0,
+        Call::Grid(_, rows, columns, row, column) => grid_place(rows, columns, row, column),
     }
 }
 

@@ -1,6 +1,6 @@
 // The calls once their input has been judged: the lengths fit, the table is undamaged, the arguments are in range. What is left to refuse
 // depends on the blocks and the mark (21, 27, 22, 13, 23 to 25, 28). A slot has 2^t bytes. A run makes its calls by `call`, a
-// replay one by one, by `any_get`, `any_read` and `any_write` those whose arguments may refuse them; neither ever scans the table.
+// replay one by one, by `any_get`, `any_read`, `any_write` and `any_grid` those whose arguments may refuse them; neither ever scans the table.
 use crate::Answer;
 use crate::Call;
 use crate::answers::accepted;
@@ -14,6 +14,7 @@ use blocks::BASE;
 use blocks::MARK;
 use blocks::Place;
 use blocks::Referent;
+use common::wide;
 ghost use mathlib.Core.Path.{_≡_};
 ghost use Prim.Native.Nat.{_+_, _-_, _^_, _≤_, _<_, min, max};
 ghost use Rattle.blocks.specs.Blocks.{base, leftIn};
@@ -229,6 +230,33 @@ pub fn set_lock(arena: &[u8], table: &mut [u8], t: u32, m: u32, p: u32, locked: 
     }
 }
 
+// The whole grid must lie in the block, whichever of its places is asked for.
+pub fn grid(
+    arena: &[u8],
+    table: &[u8],
+    t: u32,
+    m: u32,
+    p: u32,
+    rows: u8,
+    columns: u8,
+    row: u8,
+    column: u8,
+) -> Answer
+    requires { ⌜ Ready t m (Call.Grid p rows columns row column) (now arena) (now table) ⌝ }
+    ensures { λ r. ⌜ outcome r (now (arena .entry)) (now (table .entry))
+        ≡ heapStep t m (Call.Grid p rows columns row column) (heapOf (now (arena .entry)) (now (table .entry))) ⌝ }
+{
+    match locate_plain(table, t, m, p) {
+        Located::Refused(number) => refused(number),
+        Located::Inside(s, e) => {
+            if left_in(s, e, p) < wide(rows) * wide(columns) {
+                return refused(25);
+            }
+            accepted(p + wide(row) * wide(columns) + wide(column))
+        }
+    }
+}
+
 // The check of an address.
 pub fn check(arena: &[u8], table: &[u8], t: u32, m: u32, p: u32, i: u32) -> Answer
     requires { ⌜ Sound t m (now arena) (now table) ⌝ }
@@ -240,7 +268,8 @@ pub fn check(arena: &[u8], table: &[u8], t: u32, m: u32, p: u32, i: u32) -> Answ
     }
 }
 
-// A get of any size, and a read and a write of any width and value: their arguments are judged too. No other call has arguments that refuse it.
+// A get of any size, a read and a write of any width and value, and a grid with any place: their arguments are judged too. No other call has arguments that
+// refuse it.
 pub fn any_get(arena: &mut [u8], table: &mut [u8], t: u32, m: u32, n: u32) -> Answer
     requires { ⌜ Sound t m (now arena) (now table) ⌝ }
     ensures { λ r. ⌜ outcome r (now (arena .exit)) (now (table .exit)) ≡ heapStep t m (Call.Get n) (heapOf (now (arena .entry)) (now (table .entry))) ⌝ }
@@ -275,6 +304,28 @@ pub fn any_write(arena: &mut [u8], table: &[u8], t: u32, m: u32, p: u32, w: u8, 
     write(arena, table, t, m, p, w, v)
 }
 
+pub fn any_grid(
+    arena: &[u8],
+    table: &[u8],
+    t: u32,
+    m: u32,
+    p: u32,
+    rows: u8,
+    columns: u8,
+    row: u8,
+    column: u8,
+) -> Answer
+    requires { ⌜ Sound t m (now arena) (now table) ⌝ }
+    ensures { λ r. ⌜ outcome r (now (arena .entry)) (now (table .entry))
+        ≡ heapStep t m (Call.Grid p rows columns row column) (heapOf (now (arena .entry)) (now (table .entry))) ⌝ }
+{
+    let number = arguments(m, Call::Grid(p, rows, columns, row, column));
+    if number != 0 {
+        return refused(number);
+    }
+    grid(arena, table, t, m, p, rows, columns, row, column)
+}
+
 // Any call, its arguments judged too: only lengths and damage are taken for granted. The run is its one caller, and so the compiler puts it into the run's
 // loop; with a second caller it would be handed each call in memory.
 pub fn call(arena: &mut [u8], table: &mut [u8], t: u32, m: u32, c: Call) -> Answer
@@ -291,5 +342,16 @@ pub fn call(arena: &mut [u8], table: &mut [u8], t: u32, m: u32, c: Call) -> Answ
         Call::Copy(p, q, n) => copy(arena, table, t, m, p, q, n),
         Call::Fill(p, v, n) => fill(arena, table, t, m, p, v, n),
         Call::SetLock(p, locked) => set_lock(arena, table, t, m, p, locked),
+        Call::Grid(p, rows, columns, row, column) => any_grid(
+            arena,
+            table,
+            t,
+            m,
+            p,
+            rows,
+            columns,
+            row,
+            column,
+        ),
     }
 }

@@ -1,4 +1,4 @@
--- Demand 3, for every list of the ten calls with any arguments, from a fresh heap of 2 ^ m bytes, m from 5 to 16:
+-- Demand 3, for every list of the eleven calls with any arguments, from a fresh heap of 2 ^ m bytes, m from 5 to 16:
 --   answers   the list of all numbers and values, in the calls' order, equals the ledger's;
 --   bytes     all arena bytes equal the ledger's;
 --   pairs     the ledger's pairs are aligned blocks of the arena that don't overlap,

@@ -5,23 +5,21 @@ use mathlib.Core.Bool.{true, false, not, _||_}
 use mathlib.Core.List.{List, _∷_}
 use native.Mathlib.Omega.{arith}
 use lib.ListN.{getD}
-use borrow.Author.Tests.{le-leb, lt-leb}
 use Rattle.common.specs.Bytes.{bigEndian}
-use Rattle.heap.specs.OperationNumbers.{lastOperation, isOperation}
-use Rattle.heap.specs.declared.Call.the-variants.{SetLock}
+use Rattle.heap.specs.OperationNumbers.{namesCall}
 use Rattle.common.proofs.Arms.{NoneOf, no-arm}
-use Rattle.history.specs.Replaying.{callLength, callNamed, callAt, callsFrom, unknownFrom}
+use Rattle.history.specs.Replaying.{callLength, gridFrom, callNamed, secondByte, callAt, callsFrom, unknownFrom}
 
 module _ (s : List ℕ) (at a b c : ℕ) (x : a ≡ bigEndian s (at + 2) 4) (y : b ≡ bigEndian s (at + 6) 4) (z : c ≡ bigEndian s (at + 10) 4) where
-  pub call-is : (k : ℕ) → getD s at 0 ≡ k → callNamed k (getD s (at + 1) 0) a b c ≡ callAt s at
+  pub call-is : (k : ℕ) → getD s at 0 ≡ k → callNamed k (getD s (at + 1) 0) a b c (secondByte s at) ≡ callAt s at
   unfolding callAt
   call-is k e = rw (x, y, z, e)
 
 -- no arm before has the operation
-pub unlock-is : (k x a b c : ℕ) → NoneOf k 9 → SetLock a false ≡ callNamed k x a b c
-unlock-is k x a b c n =
-    let t = no-arm k 9 n in
-    rw (t 1 refl, t 2 refl, t 3 refl, t 4 refl, t 5 refl, t 6 refl, t 7 refl, t 8 refl, t 9 refl)
+pub grid-is : (k x a b c : ℕ) (y : ℕ → ℕ) → NoneOf k 10 → gridFrom a y ≡ callNamed k x a b c y
+grid-is k x a b c y n =
+    let t = no-arm k 10 n in
+    rw (t 1 refl, t 2 refl, t 3 refl, t 4 refl, t 5 refl, t 6 refl, t 7 refl, t 8 refl, t 9 refl, t 10 refl)
 
 module _ (s : List ℕ) (n i : ℕ) (l : i < n) where
   one-more : n - i ≡ suc (n - (i + 1))
@@ -37,18 +35,15 @@ module _ (s : List ℕ) (n i : ℕ) (l : i < n) where
   abbrev op : ℕ
   op = getD s (i * callLength) 0
 
-  unknown-here : unknownFrom s (i * callLength) (n - i) ≡ not (isOperation op) || unknownFrom s ((i + 1) * callLength) (n - (i + 1))
+  unknown-here : unknownFrom s (i * callLength) (n - i) ≡ not (namesCall op) || unknownFrom s ((i + 1) * callLength) (n - (i + 1))
   unfolding unknownFrom
   unknown-here = rw (one-more, ← next-place)
 
-  pub unknown-below : op < 1 → unknownFrom s (i * callLength) (n - i) ≡ true
-  unknown-below h = rw (unknown-here, lt-leb 1 op h)
+  pub unknown-found : namesCall op ≡ false → unknownFrom s (i * callLength) (n - i) ≡ true
+  unknown-found h = rw (unknown-here, h)
 
-  pub unknown-above : 1 ≤ op → lastOperation < op → unknownFrom s (i * callLength) (n - i) ≡ true
-  unknown-above p h = rw (unknown-here, le-leb 1 op p, lt-leb op lastOperation h)
-
-  pub known-here : 1 ≤ op → op ≤ lastOperation → unknownFrom s (i * callLength) (n - i) ≡ unknownFrom s ((i + 1) * callLength) (n - (i + 1))
-  known-here p h = rw (unknown-here, le-leb 1 op p, le-leb op lastOperation h)
+  pub known-here : namesCall op ≡ true → unknownFrom s (i * callLength) (n - i) ≡ unknownFrom s ((i + 1) * callLength) (n - (i + 1))
+  known-here h = rw (unknown-here, h)
 
 pub none-unknown : (s : List ℕ) (n i : ℕ) → n ≤ i → unknownFrom s (i * callLength) (n - i) ≡ false
 unfolding unknownFrom

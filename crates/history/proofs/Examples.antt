@@ -1,5 +1,5 @@
--- Request 5, computed and used: two heaps of 64 bytes with two blocks of 32 each. The first block is hidden: its bytes are all 1 in one heap and all 2 in
--- the other.
+-- A list of calls as bytes, computed. Request 5, computed and used: two heaps of 64 bytes with two blocks of 32 each. The first block is hidden: its bytes are
+-- all 1 in one heap and all 2 in the other.
 use Prim.Native.Nat.{ℕ, _+_, _-_, _≤_, _<_}
 use mathlib.Core.Path.{_≡_, refl, sym, _∙_, ap}
 use mathlib.Core.Bool.{Bool, true, false, true≢false}
@@ -8,18 +8,29 @@ use native.Mathlib.Decide.{decLt}
 use native.Mathlib.Omega.{arith}
 use lib.ListN.{replicate, getD}
 use lib.Seq.{getD-append-add}
+use Rattle.common.specs.Bytes.{bigEndian}
 use Rattle.blocks.specs.Blocks.{base, floor, Block, holds}
 use Rattle.blocks.specs.Tables.{any, entryOrder, referentIn}
 use Rattle.heap.specs.Heaps.{Heap, heapOf, heapCall}
 use Rattle.heap.specs.declared.Answer.{Answer}
 use Rattle.heap.specs.declared.Call.{Call}
-use Rattle.heap.specs.declared.Call.the-variants.{Get, Give, Step, Read, Write, Left, Copy, Fill, SetLock}
+use Rattle.heap.specs.declared.Call.the-variants.{Get, Give, Step, Read, Write, Left, Copy, Fill, SetLock, Grid}
 use Rattle.heap.proofs.Computing.{computed}
 use Rattle.heap.proofs.Settling.{answer}
 use Rattle.history.specs.CallLists.{Run, run}
+use Rattle.history.specs.Replaying.{callAt, callsFrom, callsOf}
 use Rattle.history.specs.Noninterference.{reveals, sourceIn, noneBarred, EqualOutside, Twins, Undisclosed}
 use Rattle.history.proofs.Pairs.{holds-by}
 use Rattle.history.proofs.Noninterference.{noninterference}
+
+-- two calls in 14 bytes each: a grid by the bytes of the second number, whatever the byte x and the third number are, and an unlock
+named : callsOf
+    (13 ∷ 99 ∷ 0 ∷ 1 ∷ 0 ∷ 2 ∷ 4 ∷ 8 ∷ 3 ∷ 7 ∷ 99 ∷ 99 ∷ 99 ∷ 99
+    ∷ 10 ∷ 0 ∷ 0 ∷ 1 ∷ 0 ∷ 0 ∷ 0 ∷ 0 ∷ 0 ∷ 0 ∷ 0 ∷ 0 ∷ 0 ∷ 0
+    ∷ [])
+    ≡ Grid 65538 4 8 3 7 ∷ SetLock 65536 false ∷ []
+unfolding callsFrom callAt bigEndian
+named = refl
 
 abbrev hidden : Block
 hidden = record { start = 65536; order = 5 }
@@ -109,12 +120,12 @@ damaged-twins : Twins hidden (damaged-heap 1) (damaged-heap 2)
 unfolding floor entryOrder referentIn
 damaged-twins = record { live = refl; tables = refl; arenas = arenas }
 
--- all ten calls, with a step, a left, a write and a copy into the block, and a fill of it while it is locked, which is refused, and once it is not; on the
--- damaged table they are refused
+-- all eleven calls, with a step, a left, a grid, a write and a copy into the block, and a fill of it while it is locked, which is refused, and once it is not;
+-- on the damaged table they are refused
 guest : List Call
 guest =
-    Get 1 ∷ Step 65536 40 ∷ Read 65568 2 ∷ Write 65537 1 7 ∷ Left 65540 ∷ Copy 65536 65568 4 ∷ SetLock 65540 true ∷ Fill 65540 3 2 ∷ SetLock 65540 false
-    ∷ Fill 65540 3 2 ∷ Give 65568 ∷ []
+    Get 1 ∷ Step 65536 40 ∷ Read 65568 2 ∷ Write 65537 1 7 ∷ Left 65540 ∷ Grid 65536 4 8 3 7 ∷ Copy 65536 65568 4 ∷ SetLock 65540 true ∷ Fill 65540 3 2
+    ∷ SetLock 65540 false ∷ Fill 65540 3 2 ∷ Give 65568 ∷ []
 
 guest-by-bytes : Undisclosed hidden (heap 1) (heap 2) guest
 unfolding unbarred guest

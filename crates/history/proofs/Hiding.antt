@@ -26,7 +26,7 @@ use Rattle.heap.specs.Rules.{rules, argumentRules, stateRules, dead}
 use Rattle.heap.specs.Effects.{copyCount, value, stored, accepted}
 use Rattle.heap.specs.Changes.{Change, adds, removes, relocks, keeps, changeOf}
 use Rattle.heap.specs.declared.Call.{Call}
-use Rattle.heap.specs.declared.Call.the-variants.{Get, Give, Step, Read, Write, Left, Copy, Fill, SetLock}
+use Rattle.heap.specs.declared.Call.the-variants.{Get, Give, Step, Read, Write, Left, Copy, Fill, SetLock, Grid}
 use Rattle.common.proofs.Refusals.{clear}
 use Rattle.heap.proofs.Changes.{Changing, gets, gives-back, sets-lock, keeps-all, changing}
 use Rattle.history.specs.Ledgers.{Ledger, ledgerView, kept}
@@ -168,6 +168,7 @@ module _ {t m : ℕ} (os : Orders t m) (l : Ledger) (proper : Proper t m (ranges
     value-same (Copy p q n) z r = refl
     value-same (Fill p v n) z r = refl
     value-same (SetLock p x) z r = refl
+    value-same (Grid p rows columns row column) z r = refl
 
     -- the bytes that it stores, at places outside b or once b was given back
     bytes-same : (c : Call) (z : first (rules c w) ≡ 0) → Quiet c → (j : ℕ) → j < storeOf c z .count
@@ -194,6 +195,7 @@ module _ {t m : ℕ} (os : Orders t m) (l : Ledger) (proper : Proper t m (ranges
         ∙ sym (taken a′)
     bytes-same (Fill p x n) z r j v k = refl
     bytes-same (SetLock p x) z r j v k = refl
+    bytes-same (Grid p rows columns row column) z r j v k = refl
 
     outside-next : (c : Call) → first (rules c w) ≡ 0 → Quiet c → EqualOutside b (stored c w a) (stored c w a′)
     outside-next c z r =

@@ -1,4 +1,4 @@
--- Request 5, "My hidden sound". Take two heaps with equal tables whose arenas differ at most inside one live block. For every list of the ten calls in
+-- Request 5, "My hidden sound". Take two heaps with equal tables whose arenas differ at most inside one live block. For every list of the eleven calls in
 -- which, before the block is given back,
 --   by-bytes     no accepted read shows a byte of it and no accepted copy carries a byte out of it, or
 --   by-pointers  no read and no copy source lies in it,

@@ -29,7 +29,7 @@ use Rattle.heap.specs.Effects.{Outcome}
 use Rattle.heap.specs.Changes.{changeOf}
 use Rattle.heap.specs.declared.Answer.{Answer}
 use Rattle.heap.specs.declared.Call.{Call}
-use Rattle.heap.specs.declared.Call.the-variants.{Get, Give, Step, Read, Write, Left, Copy, Fill, SetLock}
+use Rattle.heap.specs.declared.Call.the-variants.{Get, Give, Step, Read, Write, Left, Copy, Fill, SetLock, Grid}
 use Rattle.history.specs.Ledgers.{Ledger, ledgerView, ledgerStep, emptyLedger}
 use Rattle.history.specs.CallLists.{Run, run}
 use Rattle.history.specs.Histories.{liveBy, FreeByHistory, Starved, StarvedGet}
@@ -125,6 +125,7 @@ module _ {t m : ℕ} (os : Orders t m) (l : Ledger) (proper : Proper t m (ranges
   starved-by-rules (Copy p q n) = (not-given 20 (rules (Copy p q n) w) refl, λ x. absurd x)
   starved-by-rules (Fill p v n) = (not-given 20 (rules (Fill p v n) w) refl, λ x. absurd x)
   starved-by-rules (SetLock p k) = (not-given 20 (rules (SetLock p k) w) refl, λ x. absurd x)
+  starved-by-rules (Grid p rows columns row column) = (not-given 20 (rules (Grid p rows columns row column) w) refl, λ x. absurd x)
 
   -- 21 is the answer of exactly the starved gets
   starved-number : (c : Call) → Tells t m (ranges (l .pairs)) c (ledgerStep t m c l .answer .number)

@@ -22,7 +22,7 @@ use Rattle.heap.specs.Effects.{copyCount, value, stored, settled, accepted}
 use Rattle.heap.specs.Heaps.{Heap, heapOf, heapView, viewOf, entered, heapStep, heapCall}
 use Rattle.heap.specs.Changes.{changeOf}
 use Rattle.heap.specs.declared.Call.{Call}
-use Rattle.heap.specs.declared.Call.the-variants.{Get, Give, Step, Read, Write, Left, Copy, Fill, SetLock}
+use Rattle.heap.specs.declared.Call.the-variants.{Get, Give, Step, Read, Write, Left, Copy, Fill, SetLock, Grid}
 use Rattle.common.proofs.Refusals.{clear}
 use Rattle.heap.proofs.Judging.{accepted-ready}
 use Rattle.history.specs.Ledgers.{Ledger, ledgerView}
@@ -42,6 +42,7 @@ refused-quiet b (Left p) n = refl
 refused-quiet b (Copy p q k) n = rw (eqb-suc n)
 refused-quiet b (Fill p v k) n = refl
 refused-quiet b (SetLock p k) n = refl
+refused-quiet b (Grid p rows columns row column) n = refl
 
 module _ {t m : ℕ} (l : Ledger) (proper : Proper t m (ranges (l .pairs))) (b : Block)
     (live : referentOf (ranges (l .pairs)) (b .start) ≡ Found (b .start) (b .order)) where
@@ -80,6 +81,7 @@ module _ {t m : ℕ} (l : Ledger) (proper : Proper t m (ranges (l .pairs))) (b :
       any-false _ (copyCount w p q n) (λ j v. ap (λ (u : Bool). u && not (holds b (p + j))) (elsewhere q from e j (omega arith)))
   accepted-quiet (Fill p v n) a e z = refl
   accepted-quiet (SetLock p k) a e z = refl
+  accepted-quiet (Grid p rows columns row column) a e z = refl
 
 -- a sound heap's blocks are the pairs that its table reads back as
 sound-quiet : {t m : ℕ} (b : Block) (h : Heap) → referentIn t (h .table) (b .start) ≡ Found (b .start) (b .order) → (c : Call) → SoundHeap t m h

@@ -22,7 +22,7 @@ use Rattle.heap.specs.Views.{View, referentOfPointer, leftFrom, neededFor, star
 use Rattle.heap.specs.Rules.{rules, argumentRules, stateRules, dead}
 use Rattle.heap.specs.Effects.{copyCount, fillCount, stored}
 use Rattle.heap.specs.declared.Call.{Call}
-use Rattle.heap.specs.declared.Call.the-variants.{Get, Give, Step, Read, Write, Left, Copy, Fill, SetLock}
+use Rattle.heap.specs.declared.Call.the-variants.{Get, Give, Step, Read, Write, Left, Copy, Fill, SetLock, Grid}
 use Rattle.common.proofs.Refusals.{clear}
 use Rattle.history.specs.Ledgers.{Ledger, ledgerView}
 use Rattle.history.proofs.Agreement.{Proper, Orders}
@@ -139,6 +139,7 @@ module _ {t m : ℕ} (os : Orders t m) (l : Ledger) (proper : Proper t m (ranges
         stores = λ b. refl;
       }
   store (SetLock p k) z = store-nothing (SetLock p k) v (λ b. refl)
+  store (Grid p rows columns row column) z = store-nothing (Grid p rows columns row column) v (λ b. refl)
   store (Fill p x n) z =
       let c = clear (rules (Fill p x n) v) refl z in
       let k : ℕ = fillCount v p n in

@@ -13,7 +13,7 @@ use Rattle.heap.specs.Views.{slotOrder}
 use Rattle.heap.specs.Heaps.{Heap, heapCall}
 use Rattle.heap.specs.declared.Answer.{Answer}
 use Rattle.heap.specs.declared.Call.{Call}
-use Rattle.heap.specs.declared.Call.the-variants.{Get, Give, Step, Read, Write, Left, Copy, Fill, SetLock}
+use Rattle.heap.specs.declared.Call.the-variants.{Get, Give, Step, Read, Write, Left, Copy, Fill, SetLock, Grid}
 use Rattle.history.specs.CallLists.{run}
 use Rattle.history.specs.Histories.{givesBack}
 
@@ -31,6 +31,7 @@ reveals b (Left p) x = false
 reveals b (Copy p q n) x = eqb (x .number) 0 && any (x .value) (λ j. holds b (q + j) && not (holds b (p + j)))
 reveals b (Fill p v n) x = false
 reveals b (SetLock p l) x = false
+reveals b (Grid p rows columns row column) x = false
 
 -- In the request's words, a read or a copy source that lies in the block: its pointer does, whether the call is refused or not.
 abbrev pub sourceIn : Block → Call → Bool
@@ -43,6 +44,7 @@ sourceIn b (Left p) = false
 sourceIn b (Copy p q n) = holds b q
 sourceIn b (Fill p v n) = false
 sourceIn b (SetLock p l) = false
+sourceIn b (Grid p rows columns row column) = false
 
 -- By calls and answers alone: no call is barred up to the first accepted give of s. After that give any may stand.
 unfoldable pub noneBarred : (Call → Answer → Bool) → ℕ → List Call → List Answer → Bool
@@ -69,7 +71,7 @@ pub record Undisclosed (b : Block) (h k : Heap) (cs : List Call) : Type 0 where
   pub tables : run heapCall cs h .last .table ≡ run heapCall cs k .last .table
   pub arenas : EqualOutside b (run heapCall cs h .last .arena) (run heapCall cs k .last .arena)
 
--- Take two heaps with equal tables whose arenas differ at most inside one live block. For every list of the ten calls in which no call is barred before
+-- Take two heaps with equal tables whose arenas differ at most inside one live block. For every list of the eleven calls in which no call is barred before
 -- the block is given back, `Undisclosed` holds. Nothing else is asked of the heaps: their lengths need not fit, and the table may be damaged. The bar goes
 -- by the first heap's answers, which are the second's too.
 abbrev pub HiddenWithout : (Block → Call → Answer → Bool) → Type 0

@@ -11,18 +11,22 @@ use Rattle.blocks.specs.Sets.{tableOf}
 use Rattle.heap.specs.Views.{slotOrder}
 use Rattle.heap.specs.Heaps.{Heap, heapOf, viewOf}
 use Rattle.heap.specs.Answers.{answerLength, answersBytes}
-use Rattle.heap.specs.OperationNumbers.{isOperation}
+use Rattle.heap.specs.OperationNumbers.{namesCall}
 use Rattle.heap.specs.declared.Call.{Call}
-use Rattle.heap.specs.declared.Call.the-variants.{Get, Give, Step, Read, Write, Left, Copy, Fill, SetLock}
+use Rattle.heap.specs.declared.Call.the-variants.{Get, Give, Step, Read, Write, Left, Copy, Fill, SetLock, Grid}
 use Rattle.history.specs.CallLists.{ledgerRun}
 
 -- a call takes 14 bytes: its operation as in a take, a byte x, and three big-endian numbers
 abbrev pub callLength : ℕ
 callLength = 14
 
--- the call of one of the operations
-abbrev pub callNamed : (op x a b c : ℕ) → Call
-callNamed op x a b c =
+-- a grid whose rows, columns, row and column are y 0 to y 3
+abbrev pub gridFrom : ℕ → (ℕ → ℕ) → Call
+gridFrom p y = Grid p (y 0) (y 1) (y 2) (y 3)
+
+-- the call of an operation that names one, y k being byte k of b
+abbrev pub callNamed : (op x a b c : ℕ) (y : ℕ → ℕ) → Call
+callNamed op x a b c y =
     cond (eqb op 1) (Get a)
     (cond (eqb op 2) (Give a)
     (cond (eqb op 3) (Step a b)
@@ -31,20 +35,26 @@ callNamed op x a b c =
     (cond (eqb op 6) (Left a)
     (cond (eqb op 7) (Copy a b c)
     (cond (eqb op 8) (Fill a x c)
-    (cond (eqb op 9) (SetLock a true) (SetLock a false)))))))))
+    (cond (eqb op 9) (SetLock a true)
+    (cond (eqb op 10) (SetLock a false) (gridFrom a y))))))))))
+
+-- byte k of the second number
+abbrev pub secondByte : List ℕ → ℕ → ℕ → ℕ
+secondByte s at k = getD s (at + (6 + k)) 0
 
 unfoldable pub callAt : List ℕ → ℕ → Call
-callAt s at = callNamed (getD s at 0) (getD s (at + 1) 0) (bigEndian s (at + 2) 4) (bigEndian s (at + 6) 4) (bigEndian s (at + 10) 4)
+callAt s at =
+    callNamed (getD s at 0) (getD s (at + 1) 0) (bigEndian s (at + 2) 4) (bigEndian s (at + 6) 4) (bigEndian s (at + 10) 4) (secondByte s at)
 
 -- k calls from `at` on
 unfoldable pub callsFrom : List ℕ → ℕ → ℕ → List Call
 callsFrom s at zero = []
 callsFrom s at (suc k) = callAt s at ∷ callsFrom s (at + callLength) k
 
--- one of the k calls from `at` on has no operation of the table
+-- one of the k calls from `at` on has an operation that names no call
 unfoldable pub unknownFrom : List ℕ → ℕ → ℕ → Bool
 unknownFrom s at zero = false
-unknownFrom s at (suc k) = not (isOperation (getD s at 0)) || unknownFrom s (at + callLength) k
+unknownFrom s at (suc k) = not (namesCall (getD s at 0)) || unknownFrom s (at + callLength) k
 
 abbrev pub callCount : List ℕ → ℕ
 callCount s = length s / callLength

@@ -11,10 +11,30 @@ ghost use Rattle.common.specs.Refusals.{first};
 ghost use Rattle.heap.specs.Views.{slotOrder};
 ghost use Rattle.heap.specs.Heaps.{heapOf, heapStep, outcome};
 ghost use Rattle.heap.specs.Inner.{Sound};
-ghost use Rattle.history.specs.Replaying.{callLength, callAt, callCount, unknownFrom, replayRules, replayed, replayOf};
+ghost use Rattle.history.specs.Replaying.{callLength, gridFrom, secondByte, callAt, callCount, unknownFrom, replayRules, replayed, replayOf};
 
 // Bytes of a call: its operation, a byte, three numbers of four bytes.
 const CALL_LENGTH: usize = 14;
+
+// Makes the grid at p whose rows, columns, row and column are the bytes of the second number of the call at `at`.
+fn make_grid_at(arena: &[u8], table: &[u8], m: u32, s: &[u8], at: usize, p: u32) -> Answer
+    requires { ⌜ Sound slotOrder m (now arena) (now table) ⌝ }
+    requires { ⌜ at + callLength ≤ length (now s) ⌝ }
+    ensures { λ r. ⌜ outcome r (now (arena .entry)) (now (table .entry))
+        ≡ heapStep slotOrder m (gridFrom p (secondByte (now (s .entry)) at)) (heapOf (now (arena .entry)) (now (table .entry))) ⌝ }
+{
+    unchecked::any_grid(
+        arena,
+        table,
+        SLOT_ORDER,
+        m,
+        p,
+        s[at + 6],
+        s[at + 7],
+        s[at + 8],
+        s[at + 9],
+    )
+}
 
 // Makes the call in the CALL_LENGTH bytes from `at` on. Each arm calls its own inner function: why not `unchecked::call`, is said there.
 fn make_call_at(arena: &mut [u8], table: &mut [u8], m: u32, s: &[u8], at: usize) -> Answer
@@ -38,11 +58,12 @@ fn make_call_at(arena: &mut [u8], table: &mut [u8], m: u32, s: &[u8], at: usize)
         7 => unchecked::copy(arena, table, SLOT_ORDER, m, a, b, c),
         8 => unchecked::fill(arena, table, SLOT_ORDER, m, a, x, c),
         9 => unchecked::set_lock(arena, table, SLOT_ORDER, m, a, true),
-        _ => unchecked::set_lock(arena, table, SLOT_ORDER, m, a, false),
+        10 => unchecked::set_lock(arena, table, SLOT_ORDER, m, a, false),
+        _ => make_grid_at(arena, table, m, s, at, a),
     }
 }
 
-// Whether a call has an operation that is none of the ten.
+// Whether a call has an operation that names no call.
 fn any_unknown(calls: &[u8]) -> bool
     ensures { λ r. ⌜ r ≡ unknownFrom (now (calls .entry)) 0 (callCount (now (calls .entry))) ⌝ }
 {
@@ -50,7 +71,7 @@ fn any_unknown(calls: &[u8]) -> bool
     let mut i = 0usize;
     while i < n {
         let op = calls[i * CALL_LENGTH];
-        if op < 1 || operations::LAST < op {
+        if !operations::names_call(op) {
             return true;
         }
         i += 1;

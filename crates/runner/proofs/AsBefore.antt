@@ -18,7 +18,7 @@ use Rattle.takes.specs.JudgedBefore.{added, hasAdded, JudgedAsBefore}
 use Rattle.takes.specs.declared.Record.{Record}
 use Rattle.takes.specs.declared.Record.the-variants.{Get as get, Give as give, Step as step, Read as read}
 use Rattle.takes.specs.declared.Record.the-variants.{Write as write, Left as left, Copy as copy, Fill as fill, Lock as lock, Unlock as unlock}
-use Rattle.takes.specs.declared.Record.the-variants.{Again as again, Set as assign}
+use Rattle.takes.specs.declared.Record.the-variants.{Again as again, Set as assign, Grid as grid}
 use Rattle.takes.proofs.JudgedBefore.{NoneAdded, none-added, neither-judged-as-before}
 use Rattle.heap.specs.Effects.{Outcome}
 use Rattle.heap.specs.Heaps.{Heap, freshHeap}
@@ -45,6 +45,7 @@ next-due (lock a) p q i b = refl
 next-due (unlock a) p q i b = refl
 next-due (again d k) p q i b = absurd (true≢false b)
 next-due (assign d n) p q i b = absurd (true≢false b)
+next-due (grid d a rows columns row column) p q i b = refl
 
 -- the records from the one that is due on, as they were carried out before
 abbrev straightly : List Record → ℕ → Before → Carried

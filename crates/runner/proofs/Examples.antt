@@ -1,5 +1,5 @@
 -- Document 01's worked take as a run, on buffers of any contents and an answer slice of 40 bytes, whose last 5 stay; and what refuses it. The
--- front panel's run of takes of 64, 65 and 70 records. A take that repeats. Each is computed by the definitions.
+-- front panel's run of takes of 64, 65 and 70 records. A take that repeats. One with a grid. Each is computed by the definitions.
 use Prim.Native.Nat.{ℕ, zero, suc}
 use mathlib.Core.Path.{_≡_, refl}
 use native.Mathlib.Omega.{arith}
@@ -119,6 +119,16 @@ most-roll : ((runOf roll 4097 (heapOf (replicate 32 7) (replicate 2 9)) (replica
     × (runOf (1 ∷ 5 ∷ []) 0 (heapOf (replicate 32 7) (replicate 2 9)) [] .stopped ≡ false))
 unfolding rolled
 most-roll = (refl, refl, refl)
+
+-- A get of 32 bytes into register 2, and a place of a grid there into register 1: 4 by 8, row 2, column 3.
+grid-run : RunOutcome
+unfolding carried
+grid-run =
+    runOf (1 ∷ 5 ∷ 6 ∷ 1 ∷ 2 ∷ 0 ∷ 0 ∷ 0 ∷ 32 ∷ 7 ∷ 13 ∷ 1 ∷ 2 ∷ 4 ∷ 8 ∷ 2 ∷ 3 ∷ []) 2 (heapOf (replicate 32 7) (replicate 2 9)) (replicate 10 5)
+
+grid-placed : (grid-run .registers ≡ 0 ∷ 65555 ∷ 65536 ∷ replicate 13 0) × (grid-run .answers ≡ 0 ∷ 0 ∷ 1 ∷ 0 ∷ 0 ∷ 0 ∷ 0 ∷ 1 ∷ 0 ∷ 19 ∷ [])
+unfolding grid-run
+grid-placed = (refl, refl)
 
 -- The claims used. Nine steps of the roll are the first nine of ten. The worked take runs as it did: then, too, 34 bytes had no room for its answers.
 kept : BudgetKeeps (rolled 9) (rolled 10)

@@ -22,7 +22,7 @@ use Rattle.takes.proofs.RoundTrips.{read-low}
 use Rattle.takes.specs.declared.Record.{Record}
 use Rattle.takes.specs.declared.Record.the-variants.{Get as get, Give as give, Step as step, Read as read}
 use Rattle.takes.specs.declared.Record.the-variants.{Write as write, Left as left, Copy as copy, Fill as fill, Lock as lock, Unlock as unlock}
-use Rattle.takes.specs.declared.Record.the-variants.{Again as again, Set as assign}
+use Rattle.takes.specs.declared.Record.the-variants.{Again as again, Set as assign, Grid as grid}
 use Rattle.heap.specs.Effects.{Outcome}
 use Rattle.heap.specs.Views.{slotOrder}
 use Rattle.heap.specs.Heaps.{Heap, heapOf, heapStep, heapCall, outcome}
@@ -52,6 +52,7 @@ low-registers (lock a) h = (low-field (kindsOf 9) (fields (lock a)) 0 h refl, om
 low-registers (unlock a) h = (low-field (kindsOf 10) (fields (unlock a)) 0 h refl, omega arith)
 low-registers (again d k) h = (low-field (kindsOf 11) (fields (again d k)) 0 h refl, omega arith)
 low-registers (assign d n) h = (omega arith, omega arith)
+low-registers (grid d a rows columns row column) h = (low-field (kindsOf 13) (fields (grid d a rows columns row column)) 1 h refl, omega arith)
 
 -- a record that was judged and found good has such registers alone
 pub good-low : (file : List ℕ) (at : ℕ) → readAt file at .number ≡ 0 → LowRegisters (recordThere file at)
@@ -94,6 +95,7 @@ due-next (again d k) p q i b = go (eqb p 0)
     go true = omega arith
     go false = omega (arith, leb-false i k b)
 due-next (assign d n) p q i b = omega arith
+due-next (grid d a rows columns row column) p q i b = omega arith
 
 -- a sound heap has its arena's order, and a record leaves it sound
 module _ (m : ℕ) (a tab : List ℕ) (s : Sound slotOrder m a tab) where

@@ -1,4 +1,4 @@
--- Document 01, "A take", with requests 7 and 9 of document 02: a record decoded: what it does with the sixteen registers, and which record is due after it.
+-- Document 01, "A take", with requests 7, 9 and 10 of document 02: a record decoded: what it does with the sixteen registers, and which record is due after it.
 use Prim.Native.Nat.{ℕ, suc, _-_}
 use mathlib.Core.Bool.{true, false, cond}
 use mathlib.Core.List.{List}
@@ -7,9 +7,9 @@ use lib.Dec.{eqb}
 use Rattle.takes.specs.declared.Record.{Record}
 use Rattle.takes.specs.declared.Record.the-variants.{Get as get, Give as give, Step as step, Read as read}
 use Rattle.takes.specs.declared.Record.the-variants.{Write as write, Left as left, Copy as copy, Fill as fill, Lock as lock, Unlock as unlock}
-use Rattle.takes.specs.declared.Record.the-variants.{Again as again, Set as assign}
+use Rattle.takes.specs.declared.Record.the-variants.{Again as again, Set as assign, Grid as grid}
 use Rattle.heap.specs.declared.Answer.{Answer}
-use Rattle.heap.specs.declared.Call.the-variants.{Get, Give, Step, Read, Write, Left, Copy, Fill, SetLock}
+use Rattle.heap.specs.declared.Call.the-variants.{Get, Give, Step, Read, Write, Left, Copy, Fill, SetLock, Grid}
 use Rattle.heap.specs.Registers.{held, putWhere}
 use Rattle.runner.specs.declared.actions.Action.{Action}
 use Rattle.runner.specs.declared.actions.Action.the-variants.{Makes, Gives, GoesBack}
@@ -36,6 +36,7 @@ decoded (unlock a) = record { a = a; b = 0; action = λ p q. Makes (SetLock p fa
 -- unless d is 0, one is taken from it, and the record k is due
 decoded (again d k) = record { a = d; b = 0; action = λ p q. cond (eqb p 0) (Gives 0) (GoesBack (p - 1) k); d = some d }
 decoded (assign d n) = record { a = 0; b = 0; action = λ p q. Gives n; d = some d }
+decoded (grid d a rows columns row column) = record { a = a; b = 0; action = λ p q. Makes (Grid p rows columns row column); d = some d }
 
 -- what a record does: p and q are the values in a and b
 abbrev pub actionOf : List ℕ → Record → Action

@@ -15,7 +15,7 @@ ghost use Rattle.heap.specs.Registers.{registerCount, held};
 ghost use Rattle.takes.specs.Operations.{known, kindsOf, sizes};
 ghost use Rattle.takes.specs.Reading.{readAt};
 ghost use Rattle.takes.specs.Inner.{byteAt, wordAt, giveAt, stepAt, readFieldsAt, writeAt, leftAt, copyAt, fillAt, lockAt, unlockAt, againAt};
-ghost use Rattle.takes.specs.Inner.{recordFrom, recordThere};
+ghost use Rattle.takes.specs.Inner.{gridAt, recordFrom, recordThere};
 ghost use Rattle.runner.specs.Decoding.{actionOf};
 ghost use Rattle.runner.specs.Inner.{LowRegisters, issuedWith};
 
@@ -155,6 +155,15 @@ fn set_at(file: &[u8], at: usize) -> Action
     Action::Gives(read_number(file, at + 1, 4))
 }
 
+fn grid_at(file: &[u8], at: usize, values: &[u32; COUNT]) -> Call
+    requires { ⌜ at + 6 ≤ length (now file) ⌝ }
+    requires { ⌜ LowRegisters (gridAt (now file) at) ⌝ }
+    ensures { λ c. ⌜ Action.Makes c ≡ actionOf (now (values .entry)) (gridAt (now (file .entry)) at) ⌝ }
+{
+    let p = held_at(values, file, at + 1);
+    Call::Grid(p, file[at + 2], file[at + 3], file[at + 4], file[at + 5])
+}
+
 // The record of any operation, from the place where its fields start.
 fn issue_at(file: &[u8], at: usize, op: u8, values: &[u32; COUNT]) -> Issued
     requires { ⌜ known op ≡ true ⌝ }
@@ -174,7 +183,8 @@ fn issue_at(file: &[u8], at: usize, op: u8, values: &[u32; COUNT]) -> Issued
         9 => makes(lock_at(file, at, values), NO_REGISTER),
         10 => makes(unlock_at(file, at, values), NO_REGISTER),
         11 => issued(again_at(file, at, values), file[at]),
-        _ => issued(set_at(file, at), file[at]),
+        12 => issued(set_at(file, at), file[at]),
+        _ => makes(grid_at(file, at, values), file[at]),
     }
 }
 

@@ -11,7 +11,7 @@ use Rattle.takes.specs.Files.{walk, headNumber, strayFrom, fileNumber, r
 use Rattle.takes.specs.JudgedBefore.{added, walkBefore, recordsBefore, numberBefore, addedFrom, hasAdded}
 use Rattle.takes.specs.Writing.{recordBytes, recordsBytes, fileOf}
 use Rattle.takes.specs.declared.Record.{Record}
-use Rattle.takes.specs.declared.Record.the-variants.{Get, Give, Step, Read}
+use Rattle.takes.specs.declared.Record.the-variants.{Get, Give, Step, Read, Grid}
 use Rattle.takes.specs.declared.Judgement.{Judgement}
 
 -- a file's judgement and its records; the numbers of several files; the readings at several places of one
@@ -27,8 +27,8 @@ readings : List ℕ → List ℕ → List Given
 unfolding judged
 readings file = map (readAt file)
 
--- document 01's column of lengths, then those of lock and unlock, again and set
-lengths : map lengthOf (1 ∷ 2 ∷ 3 ∷ 4 ∷ 5 ∷ 6 ∷ 7 ∷ 8 ∷ 9 ∷ 10 ∷ 11 ∷ 12 ∷ []) ≡ 6 ∷ 2 ∷ 7 ∷ 4 ∷ 7 ∷ 3 ∷ 8 ∷ 8 ∷ 2 ∷ 2 ∷ 4 ∷ 6 ∷ []
+-- document 01's column of lengths, then those of lock and unlock, again and set, and grid
+lengths : map lengthOf (1 ∷ 2 ∷ 3 ∷ 4 ∷ 5 ∷ 6 ∷ 7 ∷ 8 ∷ 9 ∷ 10 ∷ 11 ∷ 12 ∷ 13 ∷ []) ≡ 6 ∷ 2 ∷ 7 ∷ 4 ∷ 7 ∷ 3 ∷ 8 ∷ 8 ∷ 2 ∷ 2 ∷ 4 ∷ 6 ∷ 7 ∷ []
 unfolding kindsOf
 lengths = refl
 
@@ -117,9 +117,9 @@ were-refused : map numberBefore
 unfolding numbers numberBefore walkBefore
 were-refused = refl
 
--- again and set were added, and no other operation of the table
-which-added : map added (1 ∷ 2 ∷ 3 ∷ 4 ∷ 5 ∷ 6 ∷ 7 ∷ 8 ∷ 9 ∷ 10 ∷ 11 ∷ 12 ∷ []) ≡
-    false ∷ false ∷ false ∷ false ∷ false ∷ false ∷ false ∷ false ∷ false ∷ false ∷ true ∷ true ∷ []
+-- again and set were added with the repeats, and no other operation of the table
+which-added : map added (1 ∷ 2 ∷ 3 ∷ 4 ∷ 5 ∷ 6 ∷ 7 ∷ 8 ∷ 9 ∷ 10 ∷ 11 ∷ 12 ∷ 13 ∷ []) ≡
+    false ∷ false ∷ false ∷ false ∷ false ∷ false ∷ false ∷ false ∷ false ∷ false ∷ true ∷ true ∷ false ∷ []
 which-added = refl
 
 -- the worked take has neither, and was accepted with the same records
@@ -132,3 +132,15 @@ read-anywhere : readings (1 ∷ 6 ∷ 2 ∷ 2 ∷ 0 ∷ []) (2 ∷ 5 ∷ 1844674
     ≡ recordFound (Give 0) 5 ∷ recordRefused 4 ∷ recordRefused 4 ∷ recordRefused 6 ∷ recordRefused 4 ∷ []
 unfolding readings
 read-anywhere = refl
+
+-- a grid's fields in their order, the first two alone being registers; one with its last byte missing, and one of another length
+grid-read : readings
+    (7 ∷ 13 ∷ 1 ∷ 2 ∷ 200 ∷ 100 ∷ 99 ∷ 98 ∷ 7 ∷ 13 ∷ 1 ∷ 16 ∷ 4 ∷ 16 ∷ 1 ∷ 4 ∷ 6 ∷ 13 ∷ 1 ∷ 2 ∷ 4 ∷ 16 ∷ 1 ∷ 7 ∷ 13 ∷ 1 ∷ 2 ∷ 4 ∷ 16 ∷ 1 ∷ [])
+    (0 ∷ 8 ∷ 16 ∷ 23 ∷ [])
+    ≡ recordFound (Grid 1 2 200 100 99 98) 8 ∷ recordRefused 7 ∷ recordRefused 6 ∷ recordRefused 4 ∷ []
+unfolding readings
+grid-read = refl
+
+grid-written : recordBytes (Grid 1 2 200 100 99 98) ≡ 7 ∷ 13 ∷ 1 ∷ 2 ∷ 200 ∷ 100 ∷ 99 ∷ 98 ∷ []
+unfolding recordBytes kindsOf
+grid-written = refl

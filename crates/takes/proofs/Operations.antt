@@ -10,8 +10,9 @@ use lib.ListN.{length, getD}
 use borrow.Author.Tests.{eqb-true, ltb-true, ltb-false, leb-true, le-leb, lt-leb}
 use Rattle.common.proofs.Arms.{NoneOf, above-all}
 use Rattle.common.proofs.Booleans.{and-left, and-right}
-use Rattle.takes.specs.Operations.{Row, _has_, operations, lastInTable, knownIn, known, kindsOf, sizes, lengthOf}
-use Rattle.takes.specs.Inner.{rows, columns, digits, rowOf}
+use Rattle.heap.specs.OperationNumbers.{lastOperation}
+use Rattle.takes.specs.Operations.{Row, _has_, operations, knownIn, known, kindsOf, sizes, lengthOf}
+use Rattle.takes.specs.Inner.{tableRows, mostFields, digits, rowOf}
 
 abbrev pub AllRows : (ℕ → Type 0) → List Row → Type 0
 AllRows P [] = Unit {0}
@@ -30,34 +31,34 @@ pub every-operation : (P : ℕ → Type 0) → AllRows P operations → (op : �
 unfolding known
 every-operation P a op h = in-rows P operations a op h
 
--- the table's bounds: an operation's row and columns, and its length byte
+-- the table's bounds: an operation's row and fields, and its length byte
 pub record InTable (op : ℕ) : Type 0 where
   pub above : 0 < op
-  pub below : op < rows
-  pub few : length (kindsOf op) ≤ columns
+  pub below : op < tableRows
+  pub few : length (kindsOf op) ≤ mostFields
   pub short : sizes (kindsOf op) < 255
 
 abbrev within : ℕ → Bool
-within op = ltb 0 op && (ltb op rows && (leb (length (kindsOf op)) columns && ltb (sizes (kindsOf op)) 255))
+within op = ltb 0 op && (ltb op tableRows && (leb (length (kindsOf op)) mostFields && ltb (sizes (kindsOf op)) 255))
 
 pub in-table : (op : ℕ) → known op ≡ true → InTable op
 unfolding kindsOf
 in-table op h =
     let each : AllRows (λ op. within op ≡ true) operations =
-    (refl, (refl, (refl, (refl, (refl, (refl, (refl, (refl, (refl, (refl, (refl, (refl, tt)))))))))))) in
+    (refl, (refl, (refl, (refl, (refl, (refl, (refl, (refl, (refl, (refl, (refl, (refl, (refl, tt))))))))))))) in
     let a : within op ≡ true = every-operation (λ op. within op ≡ true) each op h in
-    let b = and-right (ltb 0 op) (ltb op rows && (leb (length (kindsOf op)) columns && ltb (sizes (kindsOf op)) 255)) a in
-    let d = and-right (ltb op rows) (leb (length (kindsOf op)) columns && ltb (sizes (kindsOf op)) 255) b in
+    let b = and-right (ltb 0 op) (ltb op tableRows && (leb (length (kindsOf op)) mostFields && ltb (sizes (kindsOf op)) 255)) a in
+    let d = and-right (ltb op tableRows) (leb (length (kindsOf op)) mostFields && ltb (sizes (kindsOf op)) 255) b in
     record {
       above = ltb-true 0 op (and-left (ltb 0 op) _ a);
-      below = ltb-true op rows (and-left (ltb op rows) _ b);
-      few = leb-true (length (kindsOf op)) columns (and-left (leb (length (kindsOf op)) columns) _ d);
-      short = ltb-true (sizes (kindsOf op)) 255 (and-right (leb (length (kindsOf op)) columns) _ d);
+      below = ltb-true op tableRows (and-left (ltb op tableRows) _ b);
+      few = leb-true (length (kindsOf op)) mostFields (and-left (leb (length (kindsOf op)) mostFields) _ d);
+      short = ltb-true (sizes (kindsOf op)) 255 (and-right (leb (length (kindsOf op)) mostFields) _ d);
     }
 
 -- the last arm of a match on the operations: of those in the table it is left with the last
-pub last-arm : (op : ℕ) → known op ≡ true → NoneOf op (lastInTable - 1) → op ≡ lastInTable
-last-arm op h o = let t = in-table op h in omega (arith, above-all op (lastInTable - 1) o (t .above), t .below)
+pub last-arm : (op : ℕ) → known op ≡ true → NoneOf op (lastOperation - 1) → op ≡ lastOperation
+last-arm op h o = let t = in-table op h in omega (arith, above-all op (lastOperation - 1) o (t .above), t .below)
 
 -- the values of g at the first n numbers
 abbrev tabulated : (ℕ → ℕ) → ℕ → List ℕ
@@ -69,15 +70,15 @@ tabulated-at g zero k h = absurd (not-suc-le-zero h)
 tabulated-at g (suc n) zero h = refl
 tabulated-at g (suc n) (suc k) h = tabulated-at (λ k. g (suc k)) n k (le-of-suc-le-suc h)
 
--- the code's table, which computes to the rows of the numbers below `rows`
+-- the code's table, which computes to the rows of the numbers below `tableRows`
 abbrev pub table : List ℕ
-table = 0 ∷ 0x49_06 ∷ 0x9_02 ∷ 0x499_07 ∷ 0x199_04 ∷ 0x419_07 ∷ 0x99_03 ∷ 0x4999_08 ∷ 0x4199_08 ∷ 0x9_02 ∷ 0x9_02 ∷ 0x29_04 ∷ 0x49_06 ∷ []
+table = 0 ∷ 0x49_06 ∷ 0x9_02 ∷ 0x499_07 ∷ 0x199_04 ∷ 0x419_07 ∷ 0x99_03 ∷ 0x4999_08 ∷ 0x4199_08 ∷ 0x9_02 ∷ 0x9_02 ∷ 0x29_04 ∷ 0x49_06 ∷ 0x111199_07 ∷ []
 
-pub rows-right : (op : ℕ) → op < rows → getD table op 0 ≡ rowOf op
+pub rows-right : (op : ℕ) → op < tableRows → getD table op 0 ≡ rowOf op
 unfolding rowOf known kindsOf
-rows-right op h = tabulated-at rowOf rows op h
+rows-right op h = tabulated-at rowOf tableRows op h
 
-pub rows-past : (op : ℕ) → rows ≤ op → 0 ≡ rowOf op
+pub rows-past : (op : ℕ) → tableRows ≤ op → 0 ≡ rowOf op
 unfolding rowOf
 rows-past op h = go (known op) refl
   where
@@ -87,11 +88,11 @@ rows-past op h = go (known op) refl
 
 -- the operations of the table are the numbers up to its last
 abbrev pub listed : ℕ → Bool
-listed op = leb 1 op && leb op lastInTable
+listed op = leb 1 op && leb op lastOperation
 
 pub known-numbers : (op : ℕ) → known op ≡ listed op
 unfolding known
-known-numbers op = go (ltb op rows) refl
+known-numbers op = go (ltb op tableRows) refl
   where
     bit : Bool → ℕ
     bit b = cond b 1 0
@@ -102,15 +103,15 @@ known-numbers op = go (ltb op rows) refl
     same false true e = absurd (omega arith)
     same false false e = refl
 
-    past : rows ≤ op → (b : Bool) → known op ≡ b → b ≡ listed op
+    past : tableRows ≤ op → (b : Bool) → known op ≡ b → b ≡ listed op
     past h true e = absurd (omega (arith, in-table op e .below))
-    past h false e = rw (le-leb 1 op (omega arith), lt-leb op lastInTable (omega arith))
+    past h false e = rw (le-leb 1 op (omega arith), lt-leb op lastOperation (omega arith))
 
-    go : (b : Bool) → ltb op rows ≡ b → known op ≡ listed op
+    go : (b : Bool) → ltb op tableRows ≡ b → known op ≡ listed op
     go true e =
-        let l = ltb-true op rows e in
-        same (known op) (listed op) (sym (tabulated-at (λ k. bit (known k)) rows op l) ∙ tabulated-at (λ k. bit (listed k)) rows op l)
-    go false e = past (ltb-false op rows e) (known op) refl
+        let l = ltb-true op tableRows e in
+        same (known op) (listed op) (sym (tabulated-at (λ k. bit (known k)) tableRows op l) ∙ tabulated-at (λ k. bit (listed k)) tableRows op l)
+    go false e = past (ltb-false op tableRows e) (known op) refl
 
 -- What a row says: it is 0 where the table has no such operation, else the length byte and the kinds.
 module _ (op row : ℕ) (is : row ≡ rowOf op) where

@@ -13,11 +13,11 @@ use Rattle.takes.specs.Operations.{Kind, known, kindsOf, sizes, lengthOf
 use Rattle.takes.specs.Records.{operation, fields, recordOf}
 use Rattle.takes.specs.Reading.{values, highRegister}
 use Rattle.takes.specs.Inner.{byteAt, halfAt, wordAt, getAt, giveAt, stepAt, readFieldsAt, writeAt, leftAt, copyAt, fillAt, lockAt, unlockAt}
-use Rattle.takes.specs.Inner.{againAt, setAt, recordFrom}
+use Rattle.takes.specs.Inner.{againAt, setAt, gridAt, recordFrom}
 use Rattle.takes.specs.Writing.{valueBytes, recordBytes, writeRecord}
-use Rattle.takes.specs.Inner.{columns, padded}
+use Rattle.takes.specs.Inner.{mostFields, padded}
 use Rattle.takes.specs.declared.Record.{Record}
-use Rattle.takes.specs.declared.Record.the-variants.{Get, Give, Step, Read, Write, Left, Copy, Fill, Lock, Unlock, Again, Set}
+use Rattle.takes.specs.declared.Record.the-variants.{Get, Give, Step, Read, Write, Left, Copy, Fill, Lock, Unlock, Again, Set, Grid}
 use Rattle.takes.proofs.Fields.{start, sizeOf, byte-is, number-is}
 
 -- A law for each operation: the record of its fields, which start at `at`, each taken from its own place in the file.
@@ -83,27 +83,40 @@ module _ (s : List ℕ) (at : ℕ) where
   unfolding recordOf kindsOf
   set-is = rw (byte-here (kindsOf 12) refl, word-from 1 (kindsOf 12) refl refl)
 
+  pub grid-is : gridAt s at ≡ recordFrom s at 13
+  unfolding recordOf kindsOf
+  grid-is =
+      rw (
+        byte-here (kindsOf 13) refl,
+        byte-from 1 (kindsOf 13) refl refl,
+        byte-from 2 (kindsOf 13) refl refl,
+        byte-from 3 (kindsOf 13) refl refl,
+        byte-from 4 (kindsOf 13) refl refl,
+        byte-from 5 (kindsOf 13) refl refl,
+      )
+
 pub record Sound (r : Record) : Type 0 where
   pub in-table : known (operation r) ≡ true
   pub bytes : length (valueBytes (kindsOf (operation r)) (fields r)) ≡ sizes (kindsOf (operation r))
-  pub columns : length (padded (fields r)) ≡ columns
+  pub field-count : length (padded (fields r)) ≡ mostFields
   pub padded-high : highRegister (kindsOf (operation r)) (padded (fields r)) ≡ highRegister (kindsOf (operation r)) (fields r)
   pub padded-bytes : valueBytes (kindsOf (operation r)) (padded (fields r)) ≡ valueBytes (kindsOf (operation r)) (fields r)
 
 pub sound : (r : Record) → Sound r
 unfolding known kindsOf bytesOf
-sound (Get d n) = record { in-table = refl; bytes = refl; columns = refl; padded-high = refl; padded-bytes = refl }
-sound (Give a) = record { in-table = refl; bytes = refl; columns = refl; padded-high = refl; padded-bytes = refl }
-sound (Step d a i) = record { in-table = refl; bytes = refl; columns = refl; padded-high = refl; padded-bytes = refl }
-sound (Read d a w) = record { in-table = refl; bytes = refl; columns = refl; padded-high = refl; padded-bytes = refl }
-sound (Write a w v) = record { in-table = refl; bytes = refl; columns = refl; padded-high = refl; padded-bytes = refl }
-sound (Left d a) = record { in-table = refl; bytes = refl; columns = refl; padded-high = refl; padded-bytes = refl }
-sound (Copy d a b n) = record { in-table = refl; bytes = refl; columns = refl; padded-high = refl; padded-bytes = refl }
-sound (Fill d a v n) = record { in-table = refl; bytes = refl; columns = refl; padded-high = refl; padded-bytes = refl }
-sound (Lock a) = record { in-table = refl; bytes = refl; columns = refl; padded-high = refl; padded-bytes = refl }
-sound (Unlock a) = record { in-table = refl; bytes = refl; columns = refl; padded-high = refl; padded-bytes = refl }
-sound (Again d k) = record { in-table = refl; bytes = refl; columns = refl; padded-high = refl; padded-bytes = refl }
-sound (Set d n) = record { in-table = refl; bytes = refl; columns = refl; padded-high = refl; padded-bytes = refl }
+sound (Get d n) = record { in-table = refl; bytes = refl; field-count = refl; padded-high = refl; padded-bytes = refl }
+sound (Give a) = record { in-table = refl; bytes = refl; field-count = refl; padded-high = refl; padded-bytes = refl }
+sound (Step d a i) = record { in-table = refl; bytes = refl; field-count = refl; padded-high = refl; padded-bytes = refl }
+sound (Read d a w) = record { in-table = refl; bytes = refl; field-count = refl; padded-high = refl; padded-bytes = refl }
+sound (Write a w v) = record { in-table = refl; bytes = refl; field-count = refl; padded-high = refl; padded-bytes = refl }
+sound (Left d a) = record { in-table = refl; bytes = refl; field-count = refl; padded-high = refl; padded-bytes = refl }
+sound (Copy d a b n) = record { in-table = refl; bytes = refl; field-count = refl; padded-high = refl; padded-bytes = refl }
+sound (Fill d a v n) = record { in-table = refl; bytes = refl; field-count = refl; padded-high = refl; padded-bytes = refl }
+sound (Lock a) = record { in-table = refl; bytes = refl; field-count = refl; padded-high = refl; padded-bytes = refl }
+sound (Unlock a) = record { in-table = refl; bytes = refl; field-count = refl; padded-high = refl; padded-bytes = refl }
+sound (Again d k) = record { in-table = refl; bytes = refl; field-count = refl; padded-high = refl; padded-bytes = refl }
+sound (Set d n) = record { in-table = refl; bytes = refl; field-count = refl; padded-high = refl; padded-bytes = refl }
+sound (Grid d a rows columns row column) = record { in-table = refl; bytes = refl; field-count = refl; padded-high = refl; padded-bytes = refl }
 
 -- what is made of the record s is made of r, which it is
 pub taken-apart : {r s : Record} {op : ℕ} {vs : List ℕ} → r ≡ s → (op ≡ operation s) × (vs ≡ padded (fields s)) → (op ≡ operation r) × (vs ≡ padded (fields r))
@@ -114,8 +127,8 @@ module _ (r : Record) (out : List ℕ) (op : ℕ) (vs : List ℕ) (taken : (op �
   pub values-known : known op ≡ true
   values-known = rw (taken .0) (sound r .in-table)
 
-  pub values-columns : length vs ≡ columns
-  values-columns = rw (taken .1) (sound r .columns)
+  pub values-count : length vs ≡ mostFields
+  values-count = rw (taken .1) (sound r .field-count)
 
   high-is : highRegister (kindsOf op) vs ≡ highRegister (kindsOf (operation r)) (fields r)
   high-is = rw (taken .0, taken .1) (sound r .padded-high)

@@ -99,7 +99,7 @@ Room op = leb (registersIn (digits (kindsOf op))) (sizes (kindsOf op)) ≡ true
 
 room-first : (op : ℕ) → known op ≡ true → Room op
 unfolding kindsOf
-room-first = every-operation Room (refl, (refl, (refl, (refl, (refl, (refl, (refl, (refl, (refl, (refl, (refl, (refl, tt))))))))))))
+room-first = every-operation Room (refl, (refl, (refl, (refl, (refl, (refl, (refl, (refl, (refl, (refl, (refl, (refl, (refl, tt)))))))))))))
 
 abbrev one : List ℕ → ℕ
 one bs = bigEndian bs 0 1
@@ -111,7 +111,7 @@ High op =
 
 high-first : (op : ℕ) → known op ≡ true → High op
 unfolding kindsOf
-high-first = every-operation High (refl, (refl, (refl, (refl, (refl, (refl, (refl, (refl, (refl, (refl, (refl, (refl, tt))))))))))))
+high-first = every-operation High (refl, (refl, (refl, (refl, (refl, (refl, (refl, (refl, (refl, (refl, (refl, (refl, (refl, tt)))))))))))))
 
 -- The record at a place of a file, as the tests find it, and what each of them tells.
 pub record Tested (s : List ℕ) (at kinds : ℕ) : Type 0 where

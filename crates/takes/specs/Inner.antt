@@ -6,20 +6,21 @@ use mathlib.Core.List.{List, [], _∷_, _++_}
 use lib.Dec.{eqb, leb}
 use lib.ListN.{getD, take, drop, replicate}
 use Rattle.common.specs.Bytes.{bigEndian}
+use Rattle.heap.specs.OperationNumbers.{lastOperation}
 use Rattle.heap.specs.Registers.{registerCount}
-use Rattle.takes.specs.Operations.{Kind, register, byte, half, word, lastInTable, known, kindsOf, lengthOf}
+use Rattle.takes.specs.Operations.{Kind, register, byte, half, word, known, kindsOf, lengthOf}
 use Rattle.takes.specs.Records.{recordOf}
 use Rattle.takes.specs.Reading.{values, operationByte, fieldValues}
 use Rattle.takes.specs.Files.{strays}
 use Rattle.takes.specs.declared.Record.{Record}
-use Rattle.takes.specs.declared.Record.the-variants.{Get, Give, Step, Read, Write, Left, Copy, Fill, Lock, Unlock, Again, Set}
+use Rattle.takes.specs.declared.Record.the-variants.{Get, Give, Step, Read, Write, Left, Copy, Fill, Lock, Unlock, Again, Set, Grid}
 
 -- The table: one row more than there are operations, for the number 0, and the most fields that a row has
-abbrev pub rows : ℕ
-rows = lastInTable + 1
+abbrev pub tableRows : ℕ
+tableRows = lastOperation + 1
 
-abbrev pub columns : ℕ
-columns = 4
+abbrev pub mostFields : ℕ
+mostFields = 6
 
 -- a kind's number: the bytes that a field takes, and 8 more for a register
 abbrev pub code : Kind → ℕ
@@ -46,7 +47,7 @@ highAt c v = cond (eqb c 9) (leb registerCount v) false
 
 -- values with zeros after them, one for each column
 abbrev pub padded : List ℕ → List ℕ
-padded vs = take columns (vs ++ replicate columns 0)
+padded vs = take mostFields (vs ++ replicate mostFields 0)
 
 -- The records, whose fields start at a place of a file: a byte there, and a number of two bytes or of four.
 abbrev pub byteAt : List ℕ → ℕ → ℕ
@@ -95,6 +96,10 @@ againAt file at = Again (byteAt file at) (halfAt file (at + 1))
 -- of the operation set
 abbrev pub setAt : List ℕ → ℕ → Record
 setAt file at = Set (byteAt file at) (wordAt file (at + 1))
+
+abbrev pub gridAt : List ℕ → ℕ → Record
+gridAt file at =
+    Grid (byteAt file at) (byteAt file (at + 1)) (byteAt file (at + 2)) (byteAt file (at + 3)) (byteAt file (at + 4)) (byteAt file (at + 5))
 
 -- the record of an operation whose fields start at a place, and the record that starts at a place
 abbrev pub recordFrom : List ℕ → ℕ → ℕ → Record

@@ -1,4 +1,5 @@
 -- Document 02, "Repeats in a take": how a file was judged before that request, kept for the claim that a file with neither again nor set is judged as it was.
+-- (It leaves out that request alone: what later ones added, such as the grid, is in it.)
 use Prim.Native.Nat.{ℕ, zero, suc}
 use mathlib.Core.Path.{_≡_}
 use mathlib.Core.Bool.{Bool, false, not, cond, _&&_, _||_}

@@ -38,11 +38,9 @@ operations =
     ∷ 11 has (register ∷ half ∷ [])
     -- set d n
     ∷ 12 has (register ∷ word ∷ [])
+    -- grid d a rows columns row column
+    ∷ 13 has (register ∷ register ∷ byte ∷ byte ∷ byte ∷ byte ∷ [])
     ∷ []
-
--- the operations of the table are 1 to this one; the calls among them have the numbers by which a replay names them
-abbrev pub lastInTable : ℕ
-lastInTable = 12
 
 abbrev pub knownIn : List Row → ℕ → Bool
 knownIn [] op = false

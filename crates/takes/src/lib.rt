@@ -11,7 +11,7 @@ mod table;
 pub mod unchecked;
 mod writer;
 
-// A record of a take with its fields, in the file's order: registers first, then what is given as it stands. All but the last two make a call; again goes
+// A record of a take with its fields, in the file's order: registers first, then what is given as it stands. All but again and set make a call; again goes
 // back to the record whose index it holds, and set puts a number in a register.
 pub enum Record {
     Get(u8, u32),
@@ -26,6 +26,7 @@ pub enum Record {
     Unlock(u8),
     Again(u8, u16),
     Set(u8, u32),
+    Grid(u8, u8, u8, u8, u8, u8),
 }
 
 // A record and the next place, or the number of a refusal.
@@ -46,9 +47,6 @@ pub struct Written {
     pub number: u32,
     pub count: u32,
 }
-
-// The last operation of the table.
-pub const LAST_OPERATION: u8 = 12;
 
 // Where the first record starts, and how long a file may be.
 pub const HEAD: usize = 2;

@@ -1,6 +1,6 @@
 // The operation table, which the reader and the writer consult, and what the kind of a field says.
-use crate::LAST_OPERATION;
 use common::index;
+use heap::operations;
 use heap::registers;
 ghost use mathlib.Core.Path.{_≡_};
 ghost use Rattle.takes.specs.Inner.{rowOf, sizeAt, highAt};
@@ -12,7 +12,7 @@ pub const REGISTERS: u32 = registers::COUNT as u32;
 const REGISTER: u32 = 9;
 
 // One row more than there are operations.
-const ROWS: usize = LAST_OPERATION as usize + 1;
+const ROWS: usize = operations::LAST as usize + 1;
 
 // The operation table, a row for each operation and one for 0, which is none. A row's last two hexadecimal digits are the length byte of its records;
 // those before are the kinds of its fields, the first field's digit the last. So a record is looked up once, and its kinds come one by one.
@@ -43,6 +43,8 @@ const OPERATIONS: [u32; ROWS] = [
     0x29_04,
     // set d n
     0x49_06,
+    // grid d a rows columns row column
+    0x111199_07,
 ];
 
 // The row of an operation, 0 where the table has no such operation.

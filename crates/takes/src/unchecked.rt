@@ -1,6 +1,7 @@
 // A record that was judged and found good, read: all here takes that for granted. A run, which makes no `Record`, uses `next` and `index_at` alone.
 use crate::Record;
 use common::index;
+use heap::operations::AGAIN;
 ghost use mathlib.Core.Path.{_≡_};
 ghost use Prim.Native.Nat.{_+_, _≤_};
 ghost use mathlib.Core.Bool.{true};
@@ -9,10 +10,7 @@ ghost use lib.ListN.{length};
 ghost use Rattle.takes.specs.Operations.{known, kindsOf, sizes};
 ghost use Rattle.takes.specs.Reading.{readAt};
 ghost use Rattle.takes.specs.Inner.{getAt, giveAt, stepAt, readFieldsAt, writeAt, leftAt, copyAt, fillAt, lockAt, unlockAt};
-ghost use Rattle.takes.specs.Inner.{halfAt, againAt, setAt, recordFrom, strayAt};
-
-// The operation that goes back to a record.
-const AGAIN: u8 = 11;
+ghost use Rattle.takes.specs.Inner.{halfAt, againAt, setAt, gridAt, recordFrom, strayAt};
 
 // The index of a record, in two bytes.
 pub fn index_at(file: &[u8], at: usize) -> u16
@@ -117,6 +115,20 @@ fn set_at(file: &[u8], at: usize) -> Record
     Record::Set(file[at], common::read_number(file, at + 1, 4))
 }
 
+fn grid_at(file: &[u8], at: usize) -> Record
+    requires { ⌜ at + 6 ≤ length (now file) ⌝ }
+    ensures { λ r. ⌜ r ≡ gridAt (now (file .entry)) at ⌝ }
+{
+    Record::Grid(
+        file[at],
+        file[at + 1],
+        file[at + 2],
+        file[at + 3],
+        file[at + 4],
+        file[at + 5],
+    )
+}
+
 // The record of any operation, from the place where its fields start.
 fn record_at(file: &[u8], at: usize, op: u8) -> Record
     requires { ⌜ known op ≡ true ⌝ }
@@ -135,7 +147,8 @@ fn record_at(file: &[u8], at: usize, op: u8) -> Record
         9 => lock_at(file, at),
         10 => unlock_at(file, at),
         11 => again_at(file, at),
-        _ => set_at(file, at),
+        12 => set_at(file, at),
+        _ => grid_at(file, at),
     }
 }
 

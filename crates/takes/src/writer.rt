@@ -17,11 +17,11 @@ ghost use Rattle.common.specs.Bytes.{over};
 ghost use Rattle.takes.specs.Operations.{known, kindsOf, sizes};
 ghost use Rattle.takes.specs.Reading.{highRegister};
 ghost use Rattle.takes.specs.Records.{operation, fields};
-ghost use Rattle.takes.specs.Inner.{columns, digits, padded};
+ghost use Rattle.takes.specs.Inner.{mostFields, digits, padded};
 ghost use Rattle.takes.specs.Writing.{writeOutcome, writeHead, writeRecord, rewriteFile, valueBytes};
 
 // The most fields that a record has.
-const FIELDS: usize = 4;
+const FIELDS: usize = 6;
 
 // A record's operation and the values of its fields, 0 where it has no further one.
 struct FieldValues {
@@ -39,24 +39,35 @@ fn values_of(r: Record) -> FieldValues
     ensures { λ p. ⌜ (p .op ≡ operation r) × (p .values ≡ padded (fields r)) ⌝ }
 {
     match r {
-        Record::Get(d, n) => field_values(1, [d as u32, n, 0, 0]),
-        Record::Give(a) => field_values(2, [a as u32, 0, 0, 0]),
-        Record::Step(d, a, i) => field_values(3, [d as u32, a as u32, i, 0]),
-        Record::Read(d, a, w) => field_values(4, [d as u32, a as u32, w as u32, 0]),
-        Record::Write(a, w, v) => field_values(5, [a as u32, w as u32, v, 0]),
-        Record::Left(d, a) => field_values(6, [d as u32, a as u32, 0, 0]),
-        Record::Copy(d, a, b, n) => field_values(7, [d as u32, a as u32, b as u32, n]),
-        Record::Fill(d, a, v, n) => field_values(8, [d as u32, a as u32, v as u32, n]),
-        Record::Lock(a) => field_values(9, [a as u32, 0, 0, 0]),
-        Record::Unlock(a) => field_values(10, [a as u32, 0, 0, 0]),
-        Record::Again(d, k) => field_values(11, [d as u32, k as u32, 0, 0]),
-        Record::Set(d, n) => field_values(12, [d as u32, n, 0, 0]),
+        Record::Get(d, n) => field_values(1, [d as u32, n, 0, 0, 0, 0]),
+        Record::Give(a) => field_values(2, [a as u32, 0, 0, 0, 0, 0]),
+        Record::Step(d, a, i) => field_values(3, [d as u32, a as u32, i, 0, 0, 0]),
+        Record::Read(d, a, w) => field_values(4, [d as u32, a as u32, w as u32, 0, 0, 0]),
+        Record::Write(a, w, v) => field_values(5, [a as u32, w as u32, v, 0, 0, 0]),
+        Record::Left(d, a) => field_values(6, [d as u32, a as u32, 0, 0, 0, 0]),
+        Record::Copy(d, a, b, n) => field_values(7, [d as u32, a as u32, b as u32, n, 0, 0]),
+        Record::Fill(d, a, v, n) => field_values(8, [d as u32, a as u32, v as u32, n, 0, 0]),
+        Record::Lock(a) => field_values(9, [a as u32, 0, 0, 0, 0, 0]),
+        Record::Unlock(a) => field_values(10, [a as u32, 0, 0, 0, 0, 0]),
+        Record::Again(d, k) => field_values(11, [d as u32, k as u32, 0, 0, 0, 0]),
+        Record::Set(d, n) => field_values(12, [d as u32, n, 0, 0, 0, 0]),
+        Record::Grid(d, a, rows, columns, row, column) => field_values(
+            13,
+            [
+                d as u32,
+                a as u32,
+                rows as u32,
+                columns as u32,
+                row as u32,
+                column as u32,
+            ],
+        ),
     }
 }
 
 // Whether a record to be written has a register past the last.
 fn high_in_values(p: FieldValues, kinds: u32) -> bool
-    requires { ⌜ (known (p .op) ≡ true) × (length (p .values) ≡ columns) ⌝ }
+    requires { ⌜ (known (p .op) ≡ true) × (length (p .values) ≡ mostFields) ⌝ }
     requires { ⌜ kinds ≡ digits (kindsOf (p .op)) ⌝ }
     ensures { λ r. ⌜ r ≡ highRegister (kindsOf (p .op)) (p .values) ⌝ }
 {
@@ -75,7 +86,7 @@ fn high_in_values(p: FieldValues, kinds: u32) -> bool
 
 // Stores the fields of a record, behind its length byte and its operation.
 fn put_fields(out: &mut [u8], p: FieldValues, kinds: u32)
-    requires { ⌜ (known (p .op) ≡ true) × (length (p .values) ≡ columns) ⌝ }
+    requires { ⌜ (known (p .op) ≡ true) × (length (p .values) ≡ mostFields) ⌝ }
     requires { ⌜ kinds ≡ digits (kindsOf (p .op)) ⌝ }
     requires { ⌜ 2 + sizes (kindsOf (p .op)) ≤ length (now out) ⌝ }
     ensures { λ _. ⌜ now (out .exit) ≡ over (now (out .entry)) 2 (valueBytes (kindsOf (p .op)) (p .values)) ⌝ }

@@ -107,6 +107,10 @@ impl Subject for Literal {
         made(Call::Unlock { p }, &mut arena.to_vec(), table)
     }
 
+    fn grid(arena: &[u8], table: &[u8], p: u32, rows: u8, columns: u8, row: u8, column: u8) -> Answer {
+        asked(Call::Grid { p, rows, columns, row, column }, arena, table)
+    }
+
     fn check(arena: &[u8], table: &[u8], h: u32, i: u32) -> Answer {
         let left = Literal::left(arena, table, h);
         if left.number != 0 {
@@ -266,6 +270,7 @@ fn call_of(record: Record, registers: &[u32; 16]) -> Option<Call> {
         Record::Fill { a, v, n, .. } => Call::Fill { p: held(a), v, n },
         Record::Lock { a } => Call::Lock { p: held(a) },
         Record::Unlock { a } => Call::Unlock { p: held(a) },
+        Record::Grid { a, rows, columns, row, column, .. } => Call::Grid { p: held(a), rows, columns, row, column },
         Record::Again { .. } | Record::Set { .. } => return None,
     })
 }
@@ -275,6 +280,7 @@ fn target(record: Record) -> Option<u8> {
     match record {
         Record::Get { d, .. } | Record::Step { d, .. } | Record::Read { d, .. } | Record::Left { d, .. } => Some(d),
         Record::Copy { d, .. } | Record::Fill { d, .. } | Record::Again { d, .. } | Record::Set { d, .. } => Some(d),
+        Record::Grid { d, .. } => Some(d),
         Record::Give { .. } | Record::Write { .. } | Record::Lock { .. } | Record::Unlock { .. } => None,
     }
 }

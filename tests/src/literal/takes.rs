@@ -7,7 +7,8 @@ use std::sync::LazyLock;
 
 /// Document 01, "A take": operation, fields, length. Request 7: "Operations 9 (lock) and 10 (unlock) have the field a,
 /// length 2". Request 9: "Operation 11, again, has a register d and a record index k of two big-endian bytes, length 4";
-/// "Operation 12, set, has d and a big-endian 4-byte number, length 6", here n.
+/// "Operation 12, set, has d and a big-endian 4-byte number, length 6", here n. Request 10: "Operation 13 has d, a, then
+/// one byte each for rows, columns, row and column, length 7".
 const PRINTED: &str = "
 | 1 get | d n | 6 |
 | 2 give | a | 2 |
@@ -21,6 +22,7 @@ const PRINTED: &str = "
 | 10 unlock | a | 2 |
 | 11 again | d k | 4 |
 | 12 set | d n | 6 |
+| 13 grid | d a rows columns row column | 7 |
 ";
 
 struct Row {
@@ -46,17 +48,18 @@ fn row(line: &'static str) -> Row {
 }
 
 /// "d, a, b are register bytes; n, i and the v of write take 4 bytes big-endian (i two's complement); w and the v of
-/// fill one." k takes two.
+/// fill one." k takes two, and each of a grid's four one.
 fn size(name: &str, field: &str) -> usize {
     match (name, field) {
         (_, "d" | "a" | "b" | "w") | ("fill", "v") => 1,
         ("again", "k") => 2,
+        ("grid", "rows" | "columns" | "row" | "column") => 1,
         (_, "n" | "i") | ("write", "v") => 4,
         _ => panic!("{name} has no field {field}"),
     }
 }
 
-/// A record's fields by their letters.
+/// A record's fields by their letters, or by their names where they have no letter.
 type Fields = Vec<(&'static str, u32)>;
 
 /// 7: "Register above 15."
@@ -90,6 +93,14 @@ fn record_of(name: &str, fields: &Fields) -> Record {
         "unlock" => Record::Unlock { a: byte("a") },
         "again" => Record::Again { d: byte("d"), k: u16::try_from(word("k")).expect("a field of two bytes") },
         "set" => Record::Set { d: byte("d"), n: word("n") },
+        "grid" => Record::Grid {
+            d: byte("d"),
+            a: byte("a"),
+            rows: byte("rows"),
+            columns: byte("columns"),
+            row: byte("row"),
+            column: byte("column"),
+        },
         _ => panic!("no operation {name}"),
     }
 }
@@ -109,6 +120,11 @@ fn named(record: Record) -> (&'static str, Fields) {
         Record::Unlock { a } => ("unlock", vec![("a", byte(a))]),
         Record::Again { d, k } => ("again", vec![("d", byte(d)), ("k", u32::from(k))]),
         Record::Set { d, n } => ("set", vec![("d", byte(d)), ("n", n)]),
+        Record::Grid { d, a, rows, columns, row, column } => {
+            let grid = [("rows", rows), ("columns", columns), ("row", row), ("column", column)];
+            let fields = [("d", d), ("a", a)].into_iter().chain(grid);
+            ("grid", fields.map(|(field, value)| (field, byte(value))).collect())
+        }
     }
 }
 

@@ -1,4 +1,4 @@
-//! fresh, the ten calls, check and show on lent buffers of any length and content.
+//! fresh, the eleven calls, check and show on lent buffers of any length and content.
 //!
 //! Each call is written once, over `KNOWN`: whether its caller already knows that the lengths fit and
 //! that the table is undamaged. A direct call knows neither; a run knows both, since it made the heap.
@@ -311,6 +311,28 @@ fn set_lock<const KNOWN: bool>(arena: &[u8], table: &mut [u8], p: u32, bit: u8) 
     let block = plain_referent(table, p)?;
     table[block.start / SLOT..block.end() / SLOT].fill(block.order as u8 | bit);
     Ok(0)
+}
+
+/// The address of a place in a grid that starts at p. The grid must lie in p's block whole, whatever the place.
+pub fn grid<const KNOWN: bool>(
+    arena: &[u8],
+    table: &[u8],
+    p: u32,
+    rows: u8,
+    columns: u8,
+    row: u8,
+    column: u8,
+) -> Outcome {
+    let m = lengths::<KNOWN>(arena, table)?;
+    if row >= rows || column >= columns {
+        return Err(NotInGrid);
+    }
+    intact::<KNOWN>(table, m)?;
+    let (_, left) = place(table, p)?;
+    if usize::from(rows) * usize::from(columns) > left {
+        return Err(PastTheEnd);
+    }
+    Ok(p + u32::from(row) * u32::from(columns) + u32::from(column))
 }
 
 /// 1 if the sum of h and i lies in h's block, by the xor of both, shifted right by the order.

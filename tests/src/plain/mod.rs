@@ -33,6 +33,7 @@ pub enum Refusal {
     Outside = 27,
     Locked = 28,
     NotBack = 29,
+    NotInGrid = 30,
 }
 
 impl Refusal {

@@ -12,7 +12,7 @@ pub fn replay(arena: &mut [u8], table: &mut [u8], calls: &[u8], out: &mut [u8]) 
     if !calls.len().is_multiple_of(CALL) {
         return Err(RecordLength);
     }
-    if calls.chunks_exact(CALL).any(|call| !(1..=10).contains(&call[0])) {
+    if calls.chunks_exact(CALL).any(|call| !matches!(call[0], 1..=10 | 13)) {
         return Err(Operation);
     }
     if !heap::lengths_fit(arena, table) {
@@ -34,7 +34,7 @@ pub fn replay(arena: &mut [u8], table: &mut [u8], calls: &[u8], out: &mut [u8]) 
     Ok(())
 }
 
-/// One call on a heap that is known to be sound: operation, byte x, numbers a, b, c.
+/// One call on a heap that is known to be sound: operation, byte x, numbers a, b, c. A grid takes b's bytes one by one.
 fn make(call: &[u8], arena: &mut [u8], table: &mut [u8]) -> heap::Outcome {
     let word = |at: usize| u32::from_be_bytes([call[at], call[at + 1], call[at + 2], call[at + 3]]);
     let (x, a, b, c) = (call[1], word(2), word(6), word(10));
@@ -48,6 +48,7 @@ fn make(call: &[u8], arena: &mut [u8], table: &mut [u8]) -> heap::Outcome {
         7 => heap::copy::<true>(arena, table, a, b, c),
         8 => heap::fill::<true>(arena, table, a, x, c),
         9 => heap::lock::<true>(arena, table, a),
-        _ => heap::unlock::<true>(arena, table, a),
+        10 => heap::unlock::<true>(arena, table, a),
+        _ => heap::grid::<true>(arena, table, a, call[6], call[7], call[8], call[9]),
     }
 }

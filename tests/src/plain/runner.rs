@@ -113,6 +113,9 @@ fn carry_out(record: Record, registers: &mut [u32; REGISTERS], arena: &mut [u8],
         Record::Unlock { a } => return heap::unlock::<true>(arena, table, held(a)),
         Record::Again { d, .. } => (d, held(d).saturating_sub(1)),
         Record::Set { d, n } => (d, n),
+        Record::Grid { d, a, rows, columns, row, column } => {
+            (d, heap::grid::<true>(arena, table, held(a), rows, columns, row, column)?)
+        }
     };
     registers[usize::from(d)] = value;
     Ok(value)

@@ -16,7 +16,7 @@ fn registers_good(record: Record) -> bool {
         Record::Give { a } | Record::Write { a, .. } => a,
         Record::Lock { a } | Record::Unlock { a } => a,
         Record::Step { d, a, .. } | Record::Read { d, a, .. } => d.max(a),
-        Record::Left { d, a } | Record::Fill { d, a, .. } => d.max(a),
+        Record::Left { d, a } | Record::Fill { d, a, .. } | Record::Grid { d, a, .. } => d.max(a),
         Record::Copy { d, a, b, .. } => d.max(a).max(b),
     };
     usize::from(highest) < REGISTERS
@@ -45,7 +45,8 @@ pub fn read(file: &[u8], at: usize) -> Result<(Record, usize), Refusal> {
         [10, a] => Record::Unlock { a },
         [11, d, k0, k1] => Record::Again { d, k: u16::from_be_bytes([k0, k1]) },
         [12, d, n0, n1, n2, n3] => Record::Set { d, n: word(n0, n1, n2, n3) },
-        [1..=12, ..] => return Err(OperationLength),
+        [13, d, a, rows, columns, row, column] => Record::Grid { d, a, rows, columns, row, column },
+        [1..=13, ..] => return Err(OperationLength),
         _ => return Err(Operation),
     };
     if registers_good(record) {
@@ -99,7 +100,8 @@ pub fn write(out: &mut [u8], record: Record) -> Result<usize, Refusal> {
     if !registers_good(record) {
         return Err(Register);
     }
-    // the single bytes, of an index each half, how many of them the record has, and the word that follows them
+    // the single bytes, of an index each half, how many of them the record has, and the word that follows them: of a
+    // grid its last four bytes
     let (head, count, word) = match record {
         Record::Get { d, n } => ([1, d, 0, 0], 2, Some(n)),
         Record::Give { a } => ([2, a, 0, 0], 2, None),
@@ -113,6 +115,9 @@ pub fn write(out: &mut [u8], record: Record) -> Result<usize, Refusal> {
         Record::Unlock { a } => ([10, a, 0, 0], 2, None),
         Record::Again { d, k } => ([11, d, k.to_be_bytes()[0], k.to_be_bytes()[1]], 4, None),
         Record::Set { d, n } => ([12, d, 0, 0], 2, Some(n)),
+        Record::Grid { d, a, rows, columns, row, column } => {
+            ([13, d, a, 0], 3, Some(u32::from_be_bytes([rows, columns, row, column])))
+        }
     };
     let mut bytes = [0; 9];
     let mut length = count;

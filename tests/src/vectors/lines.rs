@@ -108,6 +108,9 @@ impl Heap {
             ("fill", &[p, v, n]) => Call::Fill { p, v: byte(v), n },
             ("lock", &[p]) => Call::Lock { p },
             ("unlock", &[p]) => Call::Unlock { p },
+            ("grid", &[p, rows, columns, row, column]) => {
+                Call::Grid { p, rows: byte(rows), columns: byte(columns), row: byte(row), column: byte(column) }
+            }
             _ => panic!("no such call: {operation} {arguments:?}"),
         };
         call.make::<S>(arena, table)

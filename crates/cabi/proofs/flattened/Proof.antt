@@ -1,4 +1,4 @@
--- Each arm is given that the record is its variant, and `flat_record` gives the flat record of its fields: that is the record's (`flat-is`).
+-- Each arm is given that the record is its variant, and `flat_record` or `flat_grid` gives the flat record of its fields: that is the record's (`flat-is`).
 use mathlib.Core.Path.{_∙_}
 use borrow.Author.Needs.{needs}
 use Rattle.cabi.proofs.Flat.{flat-is}
@@ -15,7 +15,7 @@ flattened-spec =
     (search needs) (search needs) (search needs) (search needs)
     (search needs) (search needs) (search needs) (search needs)
     (search needs) (search needs) (search needs) (search needs)
-    (search needs) (search needs) (search needs) (search needs)
+    (search needs) (search needs) (search needs) (search needs) (search needs) (search needs)
     (λ c. c .flat-record .ensures ∙ flat-is (c .before .before .r .given .1))
     (λ c. c .flat-record2 .ensures ∙ flat-is (c .before .before .r2 .given .1))
     (λ c. c .flat-record3 .ensures ∙ flat-is (c .before .before .r3 .given .1))
@@ -27,4 +27,5 @@ flattened-spec =
     (λ c. c .flat-record9 .ensures ∙ flat-is (c .before .before .r9 .given .1))
     (λ c. c .flat-record10 .ensures ∙ flat-is (c .before .before .r10 .given .1))
     (λ c. c .flat-record11 .ensures ∙ flat-is (c .before .before .r11 .given .1))
-    (λ c. c .flat-record12 .ensures ∙ flat-is (c .before .before .r12 .given .1)))
+    (λ c. c .flat-record12 .ensures ∙ flat-is (c .before .before .r12 .given .1))
+    (λ c. c .flat-grid .ensures ∙ flat-is (c .before .before .r13 .given .1)))

@@ -1,6 +1,6 @@
--- Each arm is told the operation's number (`record-is`); the last is told that it is none of those before, and the definition has a set there too
--- (`set-is`).
-use Rattle.cabi.proofs.Flat.{record-is, set-is}
+-- Each arm is told the operation's number (`record-is`); the last is told that it is none of those before, and the definition has a grid there too
+-- (`grid-is`).
+use Rattle.cabi.proofs.Flat.{record-is, grid-is}
 use Rattle.cabi.proofs.structured.Statement.{statement}
 use Rattle.cabi.proofs.structured.Tie as tie
 
@@ -19,4 +19,5 @@ structured-spec =
     (λ c. record-is (c .before .args .f) 9 (c .match .keys9))
     (λ c. record-is (c .before .args .f) 10 (c .match .keys10))
     (λ c. record-is (c .before .args .f) 11 (c .match .keys11))
-    (λ c. set-is (c .before .args .f) (c .match .rest)))
+    (λ c. record-is (c .before .args .f) 12 (c .match .keys12))
+    (λ c. grid-is (c .before .args .f) (c .match .rest)))

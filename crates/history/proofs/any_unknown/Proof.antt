@@ -1,14 +1,13 @@
--- The loop's invariant: what is asked of all calls is asked of those that are left. A call with an unknown operation answers it (`unknown-below`,
--- `unknown-above`), and any other is passed over (`known-here`).
+-- The loop's invariant: what is asked of all calls is asked of those that are left. A call with an unknown operation answers it (`unknown-found`), and any
+-- other is passed over (`known-here`).
 use Prim.Native.Nat.{_-_, _*_, _≤_}
-use mathlib.Core.Logic.{inl, inr}
 use mathlib.Core.Path.{_≡_, sym, _∙_}
 use native.Mathlib.Omega.{arith}
-use borrow.Author.Tests.{ltb-true, ltb-false}
+use borrow.Author.Needs.{needs}
+use borrow.Author.Tests.{not-true, not-false}
 use native.Mathlib.Nat.{sub-zero}
-use Rattle.heap.specs.OperationNumbers.{lastOperation}
 use Rattle.history.specs.Replaying.{callLength, unknownFrom}
-use Rattle.history.proofs.Encoding.{unknown-below, unknown-above, known-here, none-unknown}
+use Rattle.history.proofs.Encoding.{unknown-found, known-here, none-unknown}
 use Rattle.history.proofs.any_unknown.Statement.{statement}
 use Rattle.history.proofs.any_unknown.Tie as tie
 
@@ -27,13 +26,14 @@ mul-op c = omega arith
 shared-slice-read-op : tie.Need-shared-slice-read-op Inv-loop μ-loop
 shared-slice-read-op c = omega arith
 
+names-call-requires : tie.Need-names-call-requires Inv-loop μ-loop
+names-call-requires c κs = search needs
+
 returns : tie.Need-returns Inv-loop μ-loop
 returns c =
-    let more = c .before .before .loop-test .taken in
-    sym (c .before .before .before .loop .inv .1 ∙ elim (c .if1 .came) [
-      | inl u ↦ unknown-below _ _ _ more (u .taken)
-      | inr u ↦ unknown-above _ _ _ more (u .0 .left) (ltb-true lastOperation _ (u .1 .taken))
-    ])
+    let told : tie.After-names-call Inv-loop μ-loop = c .before in
+    let inside : tie.In-loop Inv-loop μ-loop = told .before .before in
+    sym (inside .before .loop .inv .1 ∙ unknown-found _ _ _ (inside .loop-test .taken) (sym (told .names-call .ensures) ∙ not-true _ (c .if1 .taken)))
 
 add-i : tie.Need-add-i Inv-loop μ-loop
 add-i c = omega arith
@@ -43,9 +43,10 @@ loop-less c = omega arith
 
 loop-again : tie.Need-loop-again Inv-loop μ-loop
 loop-again c =
-    let inside : tie.In-loop Inv-loop μ-loop = c .before .before .before in (
+    let told : tie.After-names-call Inv-loop μ-loop = c .before in
+    let inside : tie.In-loop Inv-loop μ-loop = told .before .before in (
       omega arith,
-      inside .before .loop .inv .1 ∙ known-here _ _ _ (inside .loop-test .taken) (c .before .if1 .left) (ltb-false lastOperation _ (c .if2 .left)),
+      inside .before .loop .inv .1 ∙ known-here _ _ _ (inside .loop-test .taken) (sym (told .names-call .ensures) ∙ not-false _ (c .if1 .left)),
     )
 
 returns-2 : tie.Need-returns-2 Inv-loop μ-loop
@@ -60,6 +61,7 @@ any-unknown-spec =
     loop-holds
     mul-op
     shared-slice-read-op
+    names-call-requires
     returns
     add-i
     loop-less

@@ -1,5 +1,5 @@
 -- Each arm makes the call of its operation, of the fields that are read before it (`read`), so its outcome is that of the call in the bytes (`made`). The last
--- is an unlock, since no other operation is left (`unlock-is`). Where a call has to be ready, no arguments refuse it (`argumentRules`).
+-- is a grid, since no other operation is left (`grid-is`). Where a call has to be ready, no arguments refuse it (`argumentRules`).
 use Prim.Native.Nat.{ℕ, _+_}
 use mathlib.Core.Path.{_≡_, refl, _∙_, ap}
 use lib.ListN.{getD}
@@ -8,8 +8,8 @@ use Rattle.heap.specs.Rules.{argumentRules}
 use Rattle.heap.specs.Effects.{Outcome}
 use Rattle.heap.specs.Heaps.{Heap, heapOf, heapStep}
 use Rattle.heap.specs.declared.Call.{Call}
-use Rattle.history.specs.Replaying.{callNamed, callAt}
-use Rattle.history.proofs.Encoding.{call-is, unlock-is}
+use Rattle.history.specs.Replaying.{callNamed, secondByte, callAt}
+use Rattle.history.proofs.Encoding.{call-is, grid-is}
 use borrow.Author.Needs.{needs}
 use Rattle.history.proofs.make_call_at.Statement.{statement}
 use Rattle.history.proofs.make_call_at.Tie as tie
@@ -22,6 +22,7 @@ module _ (c : tie.After-read-number3) where
   read : (k : ℕ) → getD (s .args .s .now) (s .args .at) 0 ≡ k
       → callNamed k (getD (s .args .s .now) (s .args .at + 1) 0)
       (c .before .before .read-number .result) (c .before .read-number2 .result) (c .read-number3 .result)
+      (secondByte (s .args .s .now) (s .args .at))
       ≡ callAt (s .args .s .now) (s .args .at)
   read = call-is _ _ _ _ _ (c .before .before .read-number .ensures) (c .before .read-number2 .ensures) (c .read-number3 .ensures)
 
@@ -81,8 +82,14 @@ returns-10 : tie.Need-returns-10
 returns-10 c =
     let done : tie.After-set-lock2 = c .before .before in
     let arm = done .before .before .before in
+    made (arm .before) (read (arm .before) 10 (arm .match .keys10)) (done .set-lock2 .ensures)
+
+returns-11 : tie.Need-returns-11
+returns-11 c =
+    let arm = c .before .before .before in
     let r : tie.After-read-number3 = arm .before in
-    made r (unlock-is _ _ _ (r .before .read-number2 .result) (r .read-number3 .result) (arm .match .rest) ∙ read r _ refl) (done .set-lock2 .ensures)
+    let y : ℕ → ℕ = secondByte (s r .args .s .now) (s r .args .at) in
+    made r (grid-is _ _ _ (r .before .read-number2 .result) (r .read-number3 .result) y (arm .match .rest) ∙ read r _ refl) (c .make-grid-at .ensures)
 
 -- the fields, then each arm's call; and then, arm by arm, the lengths of what it changed and what it returns
 pub make-call-at-spec : {M : Type 1} → statement M
@@ -93,7 +100,7 @@ make-call-at-spec =
     (search needs) (search needs) (search needs) (search needs) (λ c κs. search needs) (search needs) (λ c κs. search needs) (search needs)
     (λ c κs. search needs)
     (λ c κs. search needs) (λ c κs. search needs) (λ c κs. search needs) (λ c κs. search needs) (λ c κs. search needs) (λ c κs. search needs)
-    (λ c κs. search needs) (λ c κs. search needs) (λ c κs. search needs) (λ c κs. search needs)
+    (λ c κs. search needs) (λ c κs. search needs) (λ c κs. search needs) (λ c κs. search needs) (λ c κs. search needs)
     (search needs) (search needs) returns
     (search needs) (search needs) returns-2
     (search needs) (search needs) returns-3
@@ -103,4 +110,5 @@ make-call-at-spec =
     (search needs) (search needs) returns-7
     (search needs) (search needs) returns-8
     (search needs) (search needs) returns-9
-    (search needs) (search needs) returns-10)
+    (search needs) (search needs) returns-10
+    (search needs) (search needs) returns-11)

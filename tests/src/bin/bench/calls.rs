@@ -6,7 +6,7 @@ use crate::{tables, works, Ours};
 use tulivombe_tests::subject::{Plain, Subject};
 
 pub fn section() {
-    let mut grid = Grid::new(["step", "read", "write", "left", "check", "give", "fresh"]);
+    let mut grid = Grid::new(["step", "read", "write", "left", "grid", "check", "give", "fresh"]);
     for m in [5, 6, 7, 8, 10, 16] {
         let mut heap = tables::settled(m);
         let p = heap.last_pointer();
@@ -19,12 +19,13 @@ pub fn section() {
 }
 
 /// fresh comes last, as it frees all blocks.
-fn all<'a, S: Subject + 'a>(heap: &tables::Heap, p: u32) -> [Work<'a>; 7] {
+fn all<'a, S: Subject + 'a>(heap: &tables::Heap, p: u32) -> [Work<'a>; 8] {
     [
         works::step(p, 5, S::step),
         works::read::<S>(p, 4),
         works::write::<S>(p, 4, 0xDECA_FBAD),
         works::left(p, S::left),
+        works::grid::<S>(p, 2, 2),
         works::check::<S>(p, 5),
         works::give::<S>(heap, p),
         works::fresh::<S>(),

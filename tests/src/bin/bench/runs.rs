@@ -19,6 +19,8 @@ pub fn section() {
     run_line("reads of 4 bytes, m = 10", &only(Record::Read { d: 1, a: 0, w: 4 }));
     run_line("writes of 4 bytes, m = 10", &only(Record::Write { a: 0, w: 4, v: 7 }));
     run_line("lefts, m = 10", &only(Record::Left { d: 1, a: 0 }));
+    let place = Record::Grid { d: 1, a: 0, rows: 8, columns: 16, row: 3, column: 5 };
+    run_line("grids of 8 by 16 bytes, m = 10", &only(place));
     run_line("fills of 16 bytes, m = 10", &only(Record::Fill { d: 1, a: 0, v: 7, n: 16 }));
     let file = churning_take(16);
     run_line(&format!("get and give, {} records, m = 16", records_of(&file)), &file);

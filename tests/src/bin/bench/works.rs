@@ -40,6 +40,11 @@ pub fn write<'a, S: Subject + 'a>(p: u32, w: u8, v: u32) -> Work<'a> {
     direct(move |arena, table| S::write(arena, table, p, w, v))
 }
 
+/// A place in a grid of as many bytes as a read has.
+pub fn grid<'a, S: Subject + 'a>(p: u32, rows: u8, columns: u8) -> Work<'a> {
+    direct(move |arena, table| S::grid(arena, table, p, rows, columns, rows - 1, columns - 1))
+}
+
 pub fn check<'a, S: Subject + 'a>(p: u32, i: u32) -> Work<'a> {
     direct(move |arena, table| S::check(arena, table, p, i))
 }

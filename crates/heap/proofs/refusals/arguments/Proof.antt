@@ -50,6 +50,12 @@ enum-told-5 c = search needs
 enum-told-6 : tie.Need-enum-told-6
 enum-told-6 c = search needs
 
+enum-known-c-4 : tie.Need-enum-known-c-4
+enum-known-c-4 c = search needs
+
+grid-place-requires : tie.Need-grid-place-requires
+grid-place-requires c κs = search needs
+
 returns : tie.Need-returns
 returns c = let k : tie.After-c = c .before .before in found _ (k .c .given .1) (c .request .ensures)
 
@@ -85,8 +91,13 @@ returns-9 : tie.Need-returns-9
 unfolding argumentRules
 returns-9 c = found _ (c .enum-told6 .given .1) refl
 
+returns-10 : tie.Need-returns-10
+unfolding argumentRules
+returns-10 c = let k : tie.After-c4 = c .before .before in found _ (k .c4 .given .1) (c .grid-place .ensures)
+
 pub arguments-spec : {M : Type 1} → statement M
 arguments-spec =
     tie.close
     (tie.spec enum-known-c request-requires enum-told enum-told-2 enum-known-c-2 access-requires enum-known-c-3 access-requires-2 enum-told-3 enum-told-4
-    enum-told-5 enum-told-6 returns returns-2 returns-3 returns-4 returns-5 returns-6 returns-7 returns-8 returns-9)
+    enum-told-5 enum-told-6 enum-known-c-4 grid-place-requires returns returns-2 returns-3 returns-4 returns-5 returns-6 returns-7 returns-8 returns-9
+    returns-10)

@@ -56,6 +56,11 @@ returns-9 c =
     let arm : tie.After-c9 = done .before .before .before .before in
     rw (arm .c9 .given .1) (done .set-lock .ensures)
 
+returns-10 : tie.Need-returns-10
+returns-10 c =
+    let arm : tie.After-c10 = c .before .before .before .before in
+    rw (arm .c10 .given .1) (c .any-grid .ensures)
+
 -- arm by arm: that the variant is known, and its call; and then the lengths of what it changed and what it returns
 pub call-spec : {M : Type 1} → statement M
 unfolding argumentRules
@@ -71,6 +76,7 @@ call-spec =
     (search needs) (λ c κs. record { sound = search needs; arguments = refl })
     (search needs) (λ c κs. record { sound = search needs; arguments = refl })
     (search needs) (λ c κs. record { sound = search needs; arguments = refl })
+    (search needs) (λ c κs. search needs)
     (search needs) (search needs) returns
     (search needs) (search needs) returns-2
     (search needs) (search needs) returns-3
@@ -79,4 +85,5 @@ call-spec =
     (search needs) (search needs) returns-6
     (search needs) (search needs) returns-7
     (search needs) (search needs) returns-8
-    (search needs) (search needs) returns-9)
+    (search needs) (search needs) returns-9
+    (search needs) (search needs) returns-10)

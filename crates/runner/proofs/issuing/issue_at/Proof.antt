@@ -1,16 +1,19 @@
 -- An arm for each operation n: what it needs of the file is what the row of n asks (`fits`, `fits-low`), and its record is that of the row (`gives`, with a
--- law for each operation). The last arm is left to set: an operation of the table that is none of those before.
+-- law for each operation). The last arm is left to grid: an operation of the table that is none of those before.
 use Prim.Native.Nat.{ℕ, _+_, _≤_}
 use mathlib.Core.Path.{_≡_, sym, _∙_, ap, subst}
 use mathlib.Core.List.{List}
 use native.Mathlib.Omega.{arith}
 use borrow.Author.Needs.{needs}
 use lib.ListN.{length}
-use Rattle.takes.specs.Operations.{lastInTable, kindsOf, sizes}
-use Rattle.takes.specs.Inner.{getAt, giveAt, stepAt, readFieldsAt, writeAt, leftAt, copyAt, fillAt, lockAt, unlockAt, againAt, setAt, recordFrom}
+use Rattle.heap.specs.OperationNumbers.{lastOperation}
+use Rattle.takes.specs.Operations.{kindsOf, sizes}
+use Rattle.takes.specs.Inner.{getAt, giveAt, stepAt, readFieldsAt, writeAt, leftAt, copyAt, fillAt, lockAt, unlockAt, againAt, setAt, gridAt}
+use Rattle.takes.specs.Inner.{recordFrom}
 use Rattle.takes.specs.declared.Record.{Record}
 use Rattle.takes.proofs.Operations.{last-arm}
 use Rattle.takes.proofs.Records.{get-is, give-is, step-is, read-is, write-is, left-is, copy-is, fill-is, lock-is, unlock-is, again-is, set-is}
+use Rattle.takes.proofs.Records.{grid-is}
 use Rattle.runner.specs.Decoding.{decoded, actionOf}
 use Rattle.runner.specs.Inner.{indexOf, LowRegisters, issuedWith}
 use Rattle.runner.specs.declared.actions.Action.{Action}
@@ -36,7 +39,7 @@ module _ (s : tie.Start) (n : ℕ) (is : s .args .op ≡ n) where
         → r ≡ issuedWith (s .args .values .now) (recordFrom (s .args .file .now) (s .args .at) (s .args .op))
     gives e a = rw (e, a, here)
 
-last : (c : tie.At-match-rest) → c .before .before .args .op ≡ lastInTable
+last : (c : tie.At-match-rest) → c .before .before .args .op ≡ lastOperation
 last c = last-arm (c .before .before .args .op) (c .before .before .pre .0) (c .match .rest)
 
 pub issue-at-spec : {M : Type 1} → statement M
@@ -73,8 +76,11 @@ issue-at-spec =
     (λ c κs. fits-low (c .before .before) 11 (c .match .keys11) againAt again-is)
     (λ c. let m = c .before .before in omega (arith, fits (m .before .before) 11 (m .match .keys11)))
     (search needs)
-    (λ c κs. fits (c .before .before) 12 (last c))
-    (λ c. let m = c .before .before in omega (arith, fits (m .before .before) 12 (last m)))
+    (λ c κs. fits (c .before .before) 12 (c .match .keys12))
+    (λ c. let m = c .before .before in omega (arith, fits (m .before .before) 12 (m .match .keys12)))
+    (search needs)
+    (λ c κs. fits-low (c .before .before) lastOperation (last c) gridAt grid-is)
+    (λ c. let m = c .before .before in omega (arith, fits (m .before .before) lastOperation (last m)))
     (search needs)
     (λ c.
     let a = c .before .before in
@@ -111,4 +117,7 @@ issue-at-spec =
     gives (a .before .before .before) 11 (a .before .match .keys11) againAt again-is (c .issued .ensures) (a .again-at .ensures))
     (λ c.
     let a = c .before .before in
-    gives (a .before .before .before) 12 (last (a .before)) setAt set-is (c .issued2 .ensures) (a .set-at .ensures)))
+    gives (a .before .before .before) 12 (a .before .match .keys12) setAt set-is (c .issued2 .ensures) (a .set-at .ensures))
+    (λ c.
+    let a = c .before .before in
+    gives (a .before .before .before) lastOperation (last (a .before)) gridAt grid-is (c .makes11 .ensures) (a .grid-at .ensures)))

@@ -1,4 +1,4 @@
--- Below `rows` the code's table has the row (`rows-right`); past it there is no operation, and the row is 0 (`rows-past`).
+-- Below `tableRows` the code's table has the row (`rows-right`); past it there is no operation, and the row is 0 (`rows-past`).
 use mathlib.Core.Path.{_∙_, ap}
 use Prim.Native.Nat.{ℕ}
 use native.Mathlib.Omega.{arith}

@@ -6,7 +6,7 @@ use native.Mathlib.Omega.{arith}
 use borrow.Author.Needs.{needs}
 use Rattle.takes.specs.Operations.{kindsOf}
 use Rattle.takes.specs.Reading.{highRegister}
-use Rattle.takes.specs.Inner.{columns}
+use Rattle.takes.specs.Inner.{mostFields}
 use Rattle.takes.proofs.Operations.{in-table}
 use Rattle.takes.proofs.Rows.{Seeking, seeking-column, seeking-stop, seeking-turn, seeking-end}
 use Rattle.takes.proofs.writer.high_in_values.Statement.{statement}
@@ -29,7 +29,7 @@ loop-holds c =
     }
 
 -- a column of the loop lies among the values
-column : (c : tie.In-loop Inv-loop μ-loop) → c .before .loop .k + 1 ≤ columns
+column : (c : tie.In-loop Inv-loop μ-loop) → c .before .loop .k + 1 ≤ mostFields
 column c = omega (arith, seeking-column (c .before .loop .inv) (c .loop-test .taken), c .before .before .pre .0 .1)
 
 mul-v : tie.Need-mul-v Inv-loop μ-loop

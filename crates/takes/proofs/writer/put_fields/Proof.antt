@@ -8,7 +8,7 @@ use lib.ListN.{length}
 use Rattle.common.specs.Bytes.{over}
 use Rattle.takes.specs.Operations.{kindsOf}
 use Rattle.takes.specs.Writing.{valueBytes}
-use Rattle.takes.specs.Inner.{columns}
+use Rattle.takes.specs.Inner.{mostFields}
 use Rattle.takes.proofs.Operations.{in-table}
 use Rattle.takes.proofs.Rows.{Putting, putting-column, putting-room, putting-turn, putting-end}
 use Rattle.takes.proofs.writer.put_fields.Statement.{statement}
@@ -41,7 +41,7 @@ module _ (c : tie.After-size-of Inv-loop μ-loop) where
   abbrev head : tie.At-loop Inv-loop μ-loop
   head = c .before .before
 
-  column : head .loop .k + 1 ≤ columns
+  column : head .loop .k + 1 ≤ mostFields
   column = omega (arith, putting-column (head .loop .inv) (c .before .loop-test .taken), head .before .before .pre .0 .1)
 
   room : (c .size-of .result ≤ 4) × (head .loop .at + c .size-of .result ≤ length (head .loop .out))

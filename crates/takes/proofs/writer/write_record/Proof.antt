@@ -9,9 +9,9 @@ use borrow.Author.Needs.{needs}
 use lib.ListN.{length, length-set}
 use Rattle.takes.specs.Operations.{known, kindsOf, lengthOf}
 use Rattle.takes.specs.Reading.{highRegister}
-use Rattle.takes.specs.Inner.{columns, digits}
+use Rattle.takes.specs.Inner.{mostFields, digits}
 use Rattle.takes.proofs.Operations.{row-length, row-kinds}
-use Rattle.takes.proofs.Records.{values-known, values-columns, write-high, write-short, write-done}
+use Rattle.takes.proofs.Records.{values-known, values-count, write-high, write-short, write-done}
 use Rattle.takes.proofs.writer.write_record.Statement.{statement}
 use Rattle.takes.proofs.writer.write_record.Tie as tie
 
@@ -41,8 +41,8 @@ module _ (c : tie.After-row-of) where
   known-op : known op ≡ true
   known-op = values-known (start .args .r) lent op vs (valued .values-of .ensures)
 
-  all-columns : length vs ≡ columns
-  all-columns = values-columns (start .args .r) lent op vs (valued .values-of .ensures)
+  all-values : length vs ≡ mostFields
+  all-values = values-count (start .args .r) lent op vs (valued .values-of .ensures)
 
   length-is : c .row-of .result % 256 ≡ lengthOf op
   length-is = row-length op (c .row-of .result) (c .row-of .ensures) known-op
@@ -51,7 +51,7 @@ module _ (c : tie.After-row-of) where
   kinds-are = row-kinds op (c .row-of .result) (c .row-of .ensures) known-op
 
 high-in-values-requires : tie.Need-high-in-values-requires
-high-in-values-requires c κs = ((known-op c, all-columns c), kinds-are c)
+high-in-values-requires c κs = ((known-op c, all-values c), kinds-are c)
 
 returns : tie.Need-returns
 returns c =
@@ -91,7 +91,7 @@ slice-write-out-2 c = simp length-set (omega (arith, length-is (row (c .before))
 put-fields-requires : tie.Need-put-fields-requires
 put-fields-requires c κs =
     let p = row (c .before .before) in
-    ((known-op p, all-columns p), (kinds-are p, simp length-set (omega (arith, length-is p))))
+    ((known-op p, all-values p), (kinds-are p, simp length-set (omega (arith, length-is p))))
 
 same-length : tie.Need-same-length
 same-length c = c .before .before .put-fields .kept .0 ∙ simp length-set
