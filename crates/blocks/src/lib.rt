@@ -1,4 +1,6 @@
 // Aligned blocks and their table: the damage scan, a pointer's referent, the check of a step, and the search for a free range. A slot has 2^t bytes.
+#![tactic(auto)]
+
 ghost use Rattle.std.specs.Prelude.{◌≡◌, ◌+◌, ◌-◌, ◌^◌, ◌<◌, ◌≤◌, false, length, pos};
 ghost use Rattle.blocks.specs.Blocks.{floor, holds};
 ghost use Rattle.blocks.specs.Orders.{order_of, needed_order};
@@ -34,14 +36,14 @@ const ROW: usize = 16;
 const ROW_LEVELS: u32 = 4;
 
 // The block that a pointer refers to, by its start and order.
-#[derive(Drop)]
+#[derive(Clone, Copy)]
 pub enum Referent {
     Missing,
     Found(u32, u32),
 }
 
 // A free range, by its first slot and its order.
-#[derive(Drop)]
+#[derive(Clone, Copy)]
 pub enum Place {
     At { slot: usize, order: u32 },
     Nothing,
@@ -114,8 +116,8 @@ pub fn needed_order(t: u32, m: u32, n: u32) -> u32
 // Whether r lies in the aligned block of 2^e that holds h.
 pub fn same_block(h: u32, r: u32, e: u32) -> bool
     requires { e < 32 }
-    ensures value { result ≡ check_bits e h r }
-    ensures value_2 { result ≡ holds (record { start = floor e h; order = e }) r }
+    ensures by_bits { result ≡ check_bits e h r }
+    ensures by_range { result ≡ holds (record { start = floor e h; order = e }) r }
 {
     (h ^ r) >> e == 0
 }
@@ -123,8 +125,8 @@ pub fn same_block(h: u32, r: u32, e: u32) -> bool
 // The check of a step i from the address q, in two's complement, that must stay in the block of order e that holds h.
 pub fn passes(h: u32, q: u32, i: u32, e: u32) -> bool
     requires { e < 32 }
-    ensures value { result ≡ check_bits e h (wrapped_sum q i) }
-    ensures value_2 { h < 2 ^ 31 → q < 2 ^ 31 → result ≡ within (Referent.Found (floor e h) e) (exact_sum q i) }
+    ensures by_bits { result ≡ check_bits e h (wrapped_sum q i) }
+    ensures by_range { h < 2 ^ 31 → q < 2 ^ 31 → result ≡ within (Referent.Found (floor e h) e) (exact_sum q i) }
 {
     same_block(h, std::num::wrapping_add_u32(q, i), e)
 }

@@ -1,5 +1,7 @@
 // The C interface: the heap's calls, both runs, a put into registers, replay, reader and writer under one prefix, with structs by value and slices as pointer
 // and length. What C sees of it stands in include/tulivombe.h.
+#![tactic(auto)]
+
 ghost use Rattle.std.specs.Prelude.{◌≡◌, ◌≤◌, true, false, length};
 ghost use Rattle.heap.specs.Heaps.{heap_of, outcome, heap_call, heap_fresh, heap_check};
 ghost use Rattle.heap.specs.Registers.{put_to, put_in};
@@ -21,7 +23,7 @@ use takes::{Reading, Record};
 
 // A part of the lent arena, by its offset: an exported function returns no reference.
 #[repr(C)]
-#[derive(Drop)]
+#[derive(Clone, Copy)]
 pub struct Part {
     pub number: u32,
     pub offset: u32,
@@ -30,7 +32,7 @@ pub struct Part {
 
 // A record without cases, as C has no enum with data. A field that the operation lacks is 0.
 #[repr(C)]
-#[derive(Drop)]
+#[derive(Clone, Copy)]
 pub struct FlatRecord {
     pub operation: u8,
     pub d: u8,
@@ -47,7 +49,7 @@ pub struct FlatRecord {
 
 // What the reader gives: the record and the next place, or a number and all else 0.
 #[repr(C)]
-#[derive(Drop)]
+#[derive(Clone, Copy)]
 pub struct FlatReading {
     pub number: u32,
     pub item: FlatRecord,

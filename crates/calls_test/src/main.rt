@@ -1,6 +1,8 @@
 // A test, held to outside vectors: makes the calls that standard input lists on one heap, a line each, and prints what each answers: its number and
 // value, or for `show` its number and bytes. Five words are no calls: `heap M` makes fresh buffers of order M, `only A T` lends A and T bytes from
 // then on, `poke I V` sets entry I of the table to V, `arena` and `table` print a buffer. What stands after a line's numbers is passed over.
+#![tactic(auto)]
+
 ghost use Rattle.std.specs.Prelude.{◌+◌, ◌≤◌, ◌<◌, length};
 ghost use Rattle.calls_test.specs.Bounds.{Past, arena_most, table_most, Lendable};
 
@@ -16,7 +18,7 @@ const TABLE: usize = 4096;
 const TEXT: usize = 20480;
 
 // A line's word, by its first two bytes as one number, and the five numbers after it.
-#[derive(Drop)]
+#[derive(Clone, Copy)]
 struct Line {
     word: u32,
     a: u32,
@@ -27,7 +29,7 @@ struct Line {
 }
 
 // How many bytes of the arena and of the table are lent.
-#[derive(Drop)]
+#[derive(Clone, Copy)]
 struct Lent {
     arena: usize,
     table: usize,

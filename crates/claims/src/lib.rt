@@ -1,1 +1,2 @@
 // What is claimed of the whole library: definitions and proofs alone.
+#![tactic(auto)]

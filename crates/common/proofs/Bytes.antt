@@ -104,7 +104,10 @@ number-forth (suc w) v rest h =
     let d : v / 256 < 256 ^ w = omega arith in
     let g : get_or (bytes_of w (v / 256) ++ (v % 256 ∷ rest)) (0 + w) 0 ≡ v % 256 =
     get_or_at (bytes_of w (v / 256)) (v % 256) rest 0 (0 + w) (length-bytes_of w (v / 256) ∙ sym (zero-add w)) in
-    rw (e, g, number-forth w (v / 256) (v % 256 ∷ rest) d) (div-add-mod' v 256)
+    let p : big_endian (bytes_of (suc w) v ++ rest) 0 w ≡ v / 256 =
+    ap (λ (l : List ℕ). big_endian l 0 w) e ∙ number-forth w (v / 256) (v % 256 ∷ rest) d in
+    let q : get_or (bytes_of (suc w) v ++ rest) (0 + w) 0 ≡ v % 256 = ap (λ (l : List ℕ). get_or l (0 + w) 0) e ∙ g in
+    ap₂ (λ (x y : ℕ). x * 256 + y) p q ∙ div-add-mod' v 256
 
 -- and so they are where they are stored
 pub number-over : (l : List ℕ) (at w v : ℕ) → v < 256 ^ w → at + w ≤ length l → big_endian (over l at (bytes_of w v)) at w ≡ v

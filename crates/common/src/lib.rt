@@ -1,4 +1,6 @@
 // What every crate above shares: a byte as a wider number, big-endian numbers in a lent slice, and a part of it filled or copied.
+#![tactic(auto)]
+
 ghost use Rattle.std.specs.Prelude.{◌≡◌, ◌+◌, ◌≤◌, min, length, replicate};
 ghost use Rattle.common.specs.Bytes.{big_endian, bytes_of, over, copied};
 

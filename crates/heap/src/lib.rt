@@ -1,5 +1,7 @@
 // The heap: fresh, the eleven calls, check and show, on an arena and a table that the caller lends. The eleven and check judge their input,
 // and then call their inner function in `unchecked`.
+#![tactic(auto)]
+
 ghost use Rattle.std.specs.Prelude.{◌≡◌, ◌+◌, true, false};
 ghost use Rattle.heap.specs.Heaps.{heap_of, outcome, heap_call, heap_fresh, heap_check, shown, shown_by_left, shown_from};
 
@@ -17,7 +19,7 @@ pub const SLOT_ORDER: u32 = 4;
 
 // What a call answers: the number of its refusal, 0 for none, and its value.
 #[repr(C)]
-#[derive(Drop)]
+#[derive(Clone, Copy)]
 pub struct Answer {
     pub number: u32,
     pub value: u32,
@@ -25,7 +27,7 @@ pub struct Answer {
 
 // A call with its arguments. The step's i is a signed number in two's complement. Lock and unlock are one, which sets the lock to what it says. A grid has its
 // rows and columns, then the row and the column that are asked for.
-#[derive(Drop)]
+#[derive(Clone, Copy)]
 pub enum Call {
     Get(u32),
     Give(u32),

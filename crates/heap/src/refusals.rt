@@ -106,7 +106,7 @@ pub fn before_call(table: &[u8], t: u32, m: u32, n: u32) -> u32
 }
 
 // Where a pointer leads: to the number that refuses it, or to the block of its referent, by its start and order.
-#[derive(Drop)]
+#[derive(Clone, Copy)]
 pub enum Located {
     Refused(u32),
     Inside(u32, u32),

@@ -8,7 +8,7 @@ use common::index;
 pub const COUNT: usize = 16;
 
 #[repr(C)]
-#[derive(Drop)]
+#[derive(Clone, Copy)]
 pub struct Registers {
     pub values: [u32; COUNT],
 }

@@ -43,6 +43,7 @@ ranges-added (r ∷ ps) p = ap (λ (bs : List Block). r.block ∷ bs) (ranges-ad
 
 apart : {t m : ℕ} (ps : List Pair) → Proper t m (ranges ps) → (p r : Pair) → Memᴰ p ps → Memᴰ r ps
     → (q : ℕ) → holds p.block q ≡ true → holds r.block q ≡ true → p ≡ r
+apart {t = t} {m = m} [] o p r i j q h k = elim i [ ]
 apart (x ∷ ps) (more a d o) p r (Memᴰ.head e) (Memᴰ.head f) q h k = e ∙ sym f
 apart (x ∷ ps) (more a d o) p r (Memᴰ.head e) (Memᴰ.tail j) q h k =
     absurd (before-apart q d (ap (λ (y : Pair). y.block) e) (range-in r ps j) h k)

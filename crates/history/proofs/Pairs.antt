@@ -25,6 +25,7 @@ holds_by b q x y = and_both (le-leb b.start q x) (lt-ltb q (b.start + 2 ^ b.orde
 -- ---- the ranges are a set of blocks
 
 member-aligned : {t m : ℕ} {bs : List Block} → Proper t m bs → (b : Block) → Memᴰ b bs → Aligned t m b
+member-aligned {t = t} {m = m} none b i = elim i [ ]
 member-aligned {t} {m} (more a d p) b (Memᴰ.head e) = subst (Aligned t m) (sym e) a
 member-aligned (more a d p) b (Memᴰ.tail i) = member-aligned p b i
 
@@ -34,6 +35,7 @@ pub before-apart : {bs : List Block} {b c x : Block} (q : ℕ) → ((r : ℕ) �
 before-apart {bs} {b} {c} q d e i h k = false≢true (sym (missing-none bs q (d q (subst (λ (y : Block). holds y q ≡ true) e h)) c i) ∙ k)
 
 apart : {t m : ℕ} {bs : List Block} → Proper t m bs → (b c : Block) → Memᴰ b bs → Memᴰ c bs → (q : ℕ) → holds b q ≡ true → holds c q ≡ true → b ≡ c
+apart {t = t} {m = m} none b c i j q h k = elim i [ ]
 apart (more a d p) b c (Memᴰ.head e) (Memᴰ.head f) q h k = e ∙ sym f
 apart (more a d p) b c (Memᴰ.head e) (Memᴰ.tail j) q h k = absurd (before-apart q d e j h k)
 apart (more a d p) b c (Memᴰ.tail i) (Memᴰ.head f) q h k = absurd (before-apart q d f i k h)

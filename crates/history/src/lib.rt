@@ -1,4 +1,6 @@
 // A list of calls from a fresh heap, replayed.
+#![tactic(auto)]
+
 ghost use Rattle.std.specs.Prelude.{◌≡◌, ◌+◌, ◌≤◌, length};
 ghost use Rattle.common.specs.Refusals.{first};
 ghost use Rattle.heap.specs.Views.{slot_order};

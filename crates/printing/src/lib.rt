@@ -1,4 +1,6 @@
 // What a program that runs takes prints: document 01's lines.
+#![tactic(auto)]
+
 ghost use Rattle.std.specs.Prelude.{◌≡◌, ◌+◌, ◌*◌, ◌^◌, ◌≤◌, length};
 ghost use Rattle.blocks.specs.Orders.{largest_arena};
 ghost use Rattle.takes.specs.Files.{size_byte, file_number};

@@ -1,4 +1,6 @@
 // A test: rewrites the take on standard input, and prints the number, the count and all bytes of the slice that it lent.
+#![tactic(auto)]
+
 use libc::{STDIN_FILENO, STDOUT_FILENO};
 use takes::LONGEST;
 

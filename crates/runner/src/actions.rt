@@ -8,7 +8,7 @@ use heap::registers::COUNT;
 use heap::{Answer, Call};
 
 // What a record does: it makes a call, or gives a value without one, and with that may go back to the record of an index.
-#[derive(Drop)]
+#[derive(Clone, Copy)]
 pub enum Action {
     Makes(Call),
     Gives(u32),
@@ -16,7 +16,7 @@ pub enum Action {
 }
 
 // A record with its operands: what it does with the values in its registers, and the register that its value goes to.
-#[derive(Drop)]
+#[derive(Clone, Copy)]
 pub struct Issued {
     pub action: Action,
     pub d: u8,

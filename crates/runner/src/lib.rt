@@ -1,4 +1,6 @@
 // Runs a take: its file is judged, the heap made fresh, and the records that come due are carried out with sixteen registers.
+#![tactic(auto)]
+
 ghost use Rattle.std.specs.Prelude.{◌≡◌, false, ◌≤◌, length};
 ghost use Rattle.heap.specs.Views.{slot_order};
 ghost use Rattle.heap.specs.Heaps.{heap_of, outcome};
@@ -19,7 +21,7 @@ mod issuing;
 
 // What a run returns: the number of its refusal, 0 for none, its registers, how many records it carried out, and whether it stopped with one still due.
 #[repr(C)]
-#[derive(Drop)]
+#[derive(Clone, Copy)]
 pub struct Ran {
     pub number: u32,
     pub registers: Registers,

@@ -1,6 +1,6 @@
 -- Big-endian numbers and their bytes, at any width: each way round, and in a part of a list.
 use Prim.Native.Nat.{ℕ, zero, suc, ◌+◌, ◌*◌, ◌/◌, ◌%◌, ◌^◌, ◌≤◌, ◌<◌}
-use mathlib.Core.Path.{◌≡◌, refl, sym, ◌∙◌, ap}
+use mathlib.Core.Path.{◌≡◌, refl, sym, ◌∙◌, ap, ap₂}
 use mathlib.Core.List.{List, [], ◌∷◌, ◌++◌, append_assoc}
 use native.Mathlib.Omega.{arith}
 use native.Mathlib.Nat.{add_assoc, zero-add, div-add-mod', pow-suc}
@@ -29,7 +29,10 @@ number-forth (suc w) v rest h =
     let d : v / 256 < 256 ^ w = omega arith in
     let g : get_or (bytes_of w (v / 256) ++ (v % 256 ∷ rest)) (0 + w) 0 ≡ v % 256 =
     get_or_at (bytes_of w (v / 256)) (v % 256) rest 0 (0 + w) (length-bytes_of w (v / 256) ∙ sym (zero-add w)) in
-    rw (e, g, number-forth w (v / 256) (v % 256 ∷ rest) d) (div-add-mod' v 256)
+    let p : big_endian (bytes_of (suc w) v ++ rest) 0 w ≡ v / 256 =
+    ap (λ (l : List ℕ). big_endian l 0 w) e ∙ number-forth w (v / 256) (v % 256 ∷ rest) d in
+    let q : get_or (bytes_of (suc w) v ++ rest) (0 + w) 0 ≡ v % 256 = ap (λ (l : List ℕ). get_or l (0 + w) 0) e ∙ g in
+    ap₂ (λ (x y : ℕ). x * 256 + y) p q ∙ div-add-mod' v 256
 
 pub number-back : (w : ℕ) (bs : List ℕ) → Bytes bs → w ≤ length bs → bytes_of w (big_endian bs 0 w) ≡ take w bs
 unfolding big_endian bytes_of

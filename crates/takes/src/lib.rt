@@ -1,4 +1,6 @@
 // The take format: a record of a file is read and written, and a whole file is judged and written anew. What customers call stands at this root.
+#![tactic(auto)]
+
 pub use files::judge;
 pub use reader::read;
 pub use writer::{rewrite, write_head, write_record};
@@ -11,7 +13,7 @@ mod writer;
 
 // A record of a take with its fields, in the file's order: registers first, then what is given as it stands. All but again and set make a call; again goes
 // back to the record whose index it holds, and set puts a number in a register.
-#[derive(Drop)]
+#[derive(Clone, Copy)]
 pub enum Record {
     Get(u8, u32),
     Give(u8),
@@ -29,14 +31,14 @@ pub enum Record {
 }
 
 // A record and the next place, or the number of a refusal.
-#[derive(Drop)]
+#[derive(Clone, Copy)]
 pub enum Reading {
     Found(Record, usize),
     Refused(u32),
 }
 
 // A file's refusal, or 0 with the size byte and the count of its records.
-#[derive(Drop)]
+#[derive(Clone, Copy)]
 pub struct Judgement {
     pub number: u32,
     pub size: u32,
@@ -44,7 +46,7 @@ pub struct Judgement {
 }
 
 // A writer's refusal, or 0 with the count of the bytes stored.
-#[derive(Drop)]
+#[derive(Clone, Copy)]
 pub struct Written {
     pub number: u32,
     pub count: u32,

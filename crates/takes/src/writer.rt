@@ -16,7 +16,7 @@ use blocks::{LARGEST_ARENA, SMALLEST_ARENA};
 const FIELDS: usize = 6;
 
 // A record's operation and the values of its fields, 0 where it has no further one.
-#[derive(Drop)]
+#[derive(Clone, Copy)]
 struct FieldValues {
     op: u8,
     values: [u32; FIELDS],

@@ -1,5 +1,7 @@
 // A test, held to outside vectors: plays the takes 000.take, 001.take, .. of its folder, up to the first that is missing, and prints each one's name
 // before its lines.
+#![tactic(auto)]
+
 use libc::STDOUT_FILENO;
 
 fn digit(n: usize) -> u8 {

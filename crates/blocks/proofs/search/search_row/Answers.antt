@@ -1,0 +1,54 @@
+-- The free slots of the part are those of the table, so what is said of their bits is said of the table.
+use Rattle.std.proofs.Common.{◌≡◌, ℕ, ◌-◌, ◌^◌, ◌≤◌, List, length, ap, ◌∙◌, zero-add, arith, pow_mono}
+use Rattle.blocks.specs.Tables.{free_in}
+use Rattle.blocks.specs.Inner.{bits_of, PartOf}
+use Rattle.blocks.proofs.Bits.{bits-same}
+use Rattle.blocks.proofs.Searches.{Decided, decided, part_free}
+use Rattle.blocks.proofs.search.search_row.Goals as goal
+use Rattle.blocks.proofs.search.search_row.Goals.{After-decided-found, After-free_bits-bits, Start}
+
+-- what the function is given: the part, and the orders of a slot and of the part
+module _ (c : Start) where
+  abbrev part : List ℕ
+  part = c.args.part.now
+
+  abbrev t : ℕ
+  t = c.args.t
+
+  abbrev order : ℕ
+  order = c.args.k
+
+  slots : length part ≡ 2 ^ (order - t)
+  slots = c.requires.5
+
+  few : 2 ^ (order - t) ≤ 2 ^ 4
+  few = pow_mono {i = order - t} {j = 4} (omega arith)
+
+-- where its bits were read
+module _ (c : After-free_bits-bits) where
+  bits-of-table : (s : List ℕ) → PartOf c.args.t s c.args.from c.args.k c.args.part.now
+      → c.free_bits-bits.result ≡ bits_of (free_in s) c.args.from (2 ^ (c.args.k - c.args.t))
+  bits-of-table s r =
+      c.free_bits-bits.ensures ∙ ap (bits_of (free_in c.args.part.now) 0) ((let h : length c.args.part.now ≡ 2 ^ (c.args.k - c.args.t) = c.requires.5 in h))
+      ∙ bits-same (free_in c.args.part.now) (free_in s) 0 c.args.from _ (λ j l. rw zero-add (part_free r j l))
+
+-- where they are decided, or not
+module _ (c : After-decided-found) where
+  verdict : let a = c.args in Decided a.t c.free_bits-bits.result a.from a.k a.e c.decided-found.result
+  verdict = decided c.args.t _ _ _ _ c.requires.1 c.requires.2 (omega arith) _ c.decided-found.ensures
+
+pub free_bits-bits-requires : goal.free_bits-bits-requires
+free_bits-bits-requires c = omega (arith, slots (goal.at.free_bits-bits-requires c).Start, few (goal.at.free_bits-bits-requires c).Start)
+
+pub returns-then-found-ne-UNDECIDED : goal.returns-then-found-ne-UNDECIDED
+returns-then-found-ne-UNDECIDED c s r = (verdict (goal.at.returns-then-found-ne-UNDECIDED c).After-decided-found).answer c.if-found-ne-UNDECIDED.true (free_in s) (bits-of-table (goal.at.returns-then-found-ne-UNDECIDED c).After-free_bits-bits s r)
+
+pub search_bits-requires : goal.search_bits-requires
+search_bits-requires c =
+    let d = verdict (goal.at.search_bits-requires c).After-decided-found in
+    (omega arith, omega arith, d.above c.if-found-ne-UNDECIDED.false, omega arith, omega arith, omega arith)
+
+pub returns : goal.returns
+returns c s r =
+    let known = bits-of-table (goal.at.returns c).After-free_bits-bits s r in
+    c.search_bits.ensures (free_in s) known ((verdict (goal.at.returns c).After-decided-found).mixed c.if-found-ne-UNDECIDED.false (free_in s) known)

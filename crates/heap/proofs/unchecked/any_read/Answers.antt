@@ -1,0 +1,7 @@
+-- The arguments refuse the read (`argument-refused`), or they make it ready: what is left is `read`.
+use Rattle.heap.proofs.Judging.{argument-refused}
+use Rattle.heap.proofs.unchecked.any_read.Goals as goal
+
+pub returns-then-number-ne0 : goal.returns-then-number-ne0
+returns-then-number-ne0 c =
+    argument-refused _ c.requires c.arguments-number.ensures c.if-number-ne0.true c.refused.ensures
