@@ -11,7 +11,6 @@ use Rattle.heap.proofs.check.Goals.{After-damaged, After-order_of-m}
 
 -- once the order is known
 module _ (c : After-order_of-m) where
-
   abbrev order : ℕ
   order = c.order_of-m.result
 
@@ -23,13 +22,15 @@ module _ (c : After-order_of-m) where
 
 -- once the table is judged
 module _ (c : After-damaged) where
-
   some-order : eqb c.order_of-m.result 0 ≡ false
   some-order = ne_eqb c.order_of-m.result 0 c.if-m-eq0.false
 
   by-damage : (b : Bool) → c.damaged.result ≡ b → let a = c.args in
       Judged (Left a.p) a.arena.now a.table.now (cond b 20 0) c.order_of-m.result
-  by-damage b h = judged c.before.before (cond b 20 0) (rw (some-order, sym c.damaged.ensures ∙ h))
+  unfolding argument_rules
+  by-damage b h =
+      let k : cond b 20 0 ≡ before_call slot_order c.order_of-m.result 0 c.args.table.now = rw (some-order, sym c.damaged.ensures ∙ h) in
+      judge c.order_of-m.ensures refl k
 
 pub returns-then-m-eq0 : goal.returns-then-m-eq0
 returns-then-m-eq0 c =

@@ -7,7 +7,6 @@ use Rattle.heap.proofs.write.Goals.{After-before_call-number}
 
 -- once the call is judged
 module _ (c : After-before_call-number) where
-
   judged : let a = c.args in Judged (Write a.p a.w a.v) a.arena.now a.table.now c.before_call-number.result c.order_of-m.result
   judged = judge c.order_of-m.ensures c.arguments.ensures c.before_call-number.ensures
 

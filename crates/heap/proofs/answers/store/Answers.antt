@@ -11,15 +11,10 @@ pub bounds-out-at : goal.bounds-out-at
 bounds-out-at c = omega (arith, c.requires)
 
 pub overflow_add-at : goal.overflow_add-at
-overflow_add-at c = record { fits = omega (arith, c.requires, c.well-formed.0.0) }
+overflow_add-at c = record { fits = omega (arith, c.requires, c.well_formed.0.0) }
 
 pub write_number-requires : goal.write_number-requires
 write_number-requires c = (omega arith, simp length-set (omega (arith, c.requires)))
-
-pub shape_of-out : goal.shape_of-out
-shape_of-out c =
-    let a = c.args in
-    c.write_number.auto.0 ∙ length-set a.out.now a.at (a.answer.number % 256)
 
 pub returns : goal.returns
 returns c =

@@ -6,7 +6,6 @@ use Rattle.heap.proofs.refusals.access.Goals.{Else-bad_width}
 
 -- the width is good
 module _ (c : Else-bad_width) where
-
   good-width : bad_width c.args.w ≡ false
   good-width = sym c.bad_width.ensures ∙ c.if-bad_width.false
 

@@ -12,40 +12,40 @@ found : (m : ℕ) {c d : Call} → c ≡ d → {n : ℕ} → n ≡ first (argume
 found m e q = q ∙ ap (λ (x : Call). first (argument_rules m x)) (sym e)
 
 pub returns-in-Get : goal.returns-in-Get
-returns-in-Get c = found _ c.c-1.given.1 c.request.ensures
+returns-in-Get c = found _ c.in-Get.is c.request.ensures
 
 pub returns-in-Give : goal.returns-in-Give
 unfolding argument_rules
-returns-in-Give c = found _ c.enum_told-1.given.1 refl
+returns-in-Give c = found _ c.in-Give.is refl
 
 pub returns-in-Step : goal.returns-in-Step
 unfolding argument_rules
-returns-in-Step c = found _ c.enum_told-in-Step-1.given.1 refl
+returns-in-Step c = found _ c.in-Step.is refl
 
 pub returns-in-Read : goal.returns-in-Read
 unfolding argument_rules
-returns-in-Read c = found _ c.c-in-Read-1.given.1 (c.access.ensures ∙ zero-fits c.c-in-Read-1.given.0.1.0)
+returns-in-Read c = found _ c.in-Read.is (c.access.ensures ∙ zero-fits c.in-Read.w)
 
 pub returns-in-Write : goal.returns-in-Write
 unfolding argument_rules
-returns-in-Write c = found _ c.c-in-Write-1.given.1 c.access-in-Write.ensures
+returns-in-Write c = found _ c.in-Write.is c.access-in-Write.ensures
 
 pub returns-in-Left : goal.returns-in-Left
 unfolding argument_rules
-returns-in-Left c = found _ c.enum_told-in-Left-1.given.1 refl
+returns-in-Left c = found _ c.in-Left.is refl
 
 pub returns-in-Copy : goal.returns-in-Copy
 unfolding argument_rules
-returns-in-Copy c = found _ c.enum_told-in-Copy-1.given.1 refl
+returns-in-Copy c = found _ c.in-Copy.is refl
 
 pub returns-in-Fill : goal.returns-in-Fill
 unfolding argument_rules
-returns-in-Fill c = found _ c.enum_told-in-Fill-1.given.1 refl
+returns-in-Fill c = found _ c.in-Fill.is refl
 
 pub returns-in-SetLock : goal.returns-in-SetLock
 unfolding argument_rules
-returns-in-SetLock c = found _ c.enum_told-in-SetLock-1.given.1 refl
+returns-in-SetLock c = found _ c.in-SetLock.is refl
 
 pub returns-in-Grid : goal.returns-in-Grid
 unfolding argument_rules
-returns-in-Grid c = found _ c.c-in-Grid-1.given.1 c.grid_place.ensures
+returns-in-Grid c = found _ c.in-Grid.is c.grid_place.ensures

@@ -5,13 +5,11 @@ use Rattle.heap.proofs.refusals.before_call.Goals.{Else-m-eq0, Else-n-ne0}
 
 -- where the heap has an order
 module _ (c : Else-m-eq0) where
-
   ordered : eqb c.args.m 0 ≡ false
   ordered = ne_eqb c.args.m 0 c.if-m-eq0.false
 
 -- and the arguments are not refused
 module _ (c : Else-n-ne0) where
-
   accepted : c.args.n ≡ 0
   accepted = omega (arith, c.if-n-ne0.false)
 

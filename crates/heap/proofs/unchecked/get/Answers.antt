@@ -11,11 +11,10 @@ use Rattle.heap.specs.Heaps.{outcome}
 use Rattle.heap.specs.declared.Answer.{Answer}
 use Rattle.heap.proofs.Placing.{needed, get_none, get-slots, get-bytes, get-small, get-done}
 use Rattle.heap.proofs.unchecked.get.Goals as goal
-use Rattle.heap.proofs.unchecked.get.Goals.{After-fill, After-needed_order-e, After-size_of, In-At-2}
+use Rattle.heap.proofs.unchecked.get.Goals.{After-fill, After-needed_order-e, After-size_of, In-At}
 
 -- what is known once the order is
 module _ (c : After-needed_order-e) where
-
   abbrev order : ℕ
   order = c.needed_order-e.result
 
@@ -28,44 +27,41 @@ module _ (c : After-needed_order-e) where
   order-top = omega (arith, order-needed.high, c.requires.sound.high)
 
 -- and once the place is
-module _ (c : In-At-2) where
-
+module _ (c : In-At) where
   abbrev at : ℕ
-  at = c.slot-1.given.0.0
+  at = c.in-At.slot
 
-  found : place_in (free_in c.args.table.now) c.args.t 0 c.args.m c.needed_order-e.result ≡ At at c.slot-1.given.0.1.0
-  found = sym c.find_place.ensures ∙ c.slot-1.given.1
+  found : place_in (free_in c.args.table.now) c.args.t 0 c.args.m c.needed_order-e.result ≡ At at c.in-At.order
+  found = sym c.find_place.ensures ∙ c.in-At.is
 
   slots-fit : at + 2 ^ (c.needed_order-e.result - c.args.t) ≤ length c.args.table.now
   slots-fit =
       let a = c.args in
-      get-slots a.t a.m a.n a.arena.now a.table.now c.requires c.needed_order-e.result c.needed_order-e.ensures at c.slot-1.given.0.1.0 found
+      get-slots a.t a.m a.n a.arena.now a.table.now c.requires c.needed_order-e.result c.needed_order-e.ensures at c.in-At.order found
 
 -- once the table has the block's entries
 module _ (c : After-fill) where
-
   entries : let a = c.args in
-      c.fill.new.0 ≡ over a.table.now c.slot-1.given.0.0 (replicate (2 ^ (c.needed_order-e.result - a.t)) (entry_of c.needed_order-e.result false))
+      c.fill.new.s ≡ over a.table.now c.in-At.slot (replicate (2 ^ (c.needed_order-e.result - a.t)) (entry_of c.needed_order-e.result false))
   entries =
       c.fill.ensures
-      ∙ ap₂ (λ (z x : ℕ). over c.args.table.now c.slot-1.given.0.0 (replicate z x)) c.slots_of.ensures c.entry_of.ensures
+      ∙ ap₂ (λ (z x : ℕ). over c.args.table.now c.in-At.slot (replicate z x)) c.slots_of.ensures c.entry_of.ensures
 
 -- and once a slot's size is known, the block's first byte
 module _ (c : After-size_of) where
-
   abbrev first : ℕ
-  first = c.slot-1.given.0.0 * c.size_of.result
+  first = c.in-At.slot * c.size_of.result
 
-  first-is : first ≡ c.slot-1.given.0.0 * 2 ^ c.args.t
-  first-is = ap (λ (x : ℕ). c.slot-1.given.0.0 * x) c.size_of.ensures
+  first-is : first ≡ c.in-At.slot * 2 ^ c.args.t
+  first-is = ap (λ (x : ℕ). c.in-At.slot * x) c.size_of.ensures
 
   bytes_fit : (first + 2 ^ c.needed_order-e.result ≤ length c.args.arena.now) × (length c.args.arena.now ≤ 2 ^ 16)
   bytes_fit =
       let a = c.args in
-      let k = c.slot-1.given.0.1.0 in
-      let fit = get-bytes a.t a.m a.n a.arena.now a.table.now c.requires c.needed_order-e.result c.needed_order-e.ensures c.slot-1.given.0.0 k ((let h : place_in (free_in c.args.table.now) c.args.t 0 c.args.m c.needed_order-e.result ≡ At c.slot-1.given.0.0 c.slot-1.given.0.1.0 = sym c.find_place.ensures ∙ c.slot-1.given.1 in h)) in (
+      let k = c.in-At.order in
+      let fit = get-bytes a.t a.m a.n a.arena.now a.table.now c.requires c.needed_order-e.result c.needed_order-e.ensures c.in-At.slot k ((let h : place_in (free_in c.args.table.now) c.args.t 0 c.args.m c.needed_order-e.result ≡ At c.in-At.slot c.in-At.order = sym c.find_place.ensures ∙ c.in-At.is in h)) in (
         rw first-is fit,
-        get-small a.t a.m a.n a.arena.now a.table.now c.requires c.needed_order-e.result c.needed_order-e.ensures c.slot-1.given.0.0 k ((let h : place_in (free_in c.args.table.now) c.args.t 0 c.args.m c.needed_order-e.result ≡ At c.slot-1.given.0.0 c.slot-1.given.0.1.0 = sym c.find_place.ensures ∙ c.slot-1.given.1 in h)),
+        get-small a.t a.m a.n a.arena.now a.table.now c.requires c.needed_order-e.result c.needed_order-e.ensures c.in-At.slot k ((let h : place_in (free_in c.args.table.now) c.args.t 0 c.args.m c.needed_order-e.result ≡ At c.in-At.slot c.in-At.order = sym c.find_place.ensures ∙ c.in-At.is in h)),
       )
 
 pub needed_order-e-requires : goal.needed_order-e-requires
@@ -83,7 +79,7 @@ pub entry_of-requires : goal.entry_of-requires
 entry_of-requires c = order-top (goal.at.entry_of-requires c).After-needed_order-e
 
 pub fill-requires : goal.fill-requires
-fill-requires c = omega (arith, slots-fit (goal.at.fill-requires c).In-At-2, c.slots_of.ensures)
+fill-requires c = omega (arith, slots-fit (goal.at.fill-requires c).In-At, c.slots_of.ensures)
 
 pub size_of-requires : goal.size_of-requires
 size_of-requires c = let s = c.requires.sound in omega (arith, s.slot-high, s.high)
@@ -108,13 +104,13 @@ returns-in-Nothing c =
     let a = c.args in
     ap (λ (x : Answer). outcome x a.arena.now a.table.now) c.refused.ensures
     ∙ get_none a.t a.m a.n a.arena.now a.table.now c.requires c.needed_order-e.result c.needed_order-e.ensures
-    (sym c.find_place.ensures ∙ c.enum_told-1.given.1)
+    (sym c.find_place.ensures ∙ c.in-Nothing.is)
 
 pub returns-in-At : goal.returns-in-At
 returns-in-At c =
     let a = c.args in
     let bytes = ap₂ (λ (i z : ℕ). over a.arena.now i (replicate z 0)) (first-is (goal.at.returns-in-At c).After-size_of) c.size_of-in-At.ensures in
-    ap (λ (r : Answer). outcome r c.fill-in-At.new.0 c.fill.last.0) c.accepted.ensures
-    ∙ get-done a.t a.m a.n a.arena.now a.table.now c.requires c.needed_order-e.result c.needed_order-e.ensures c.slot-1.given.0.0
-    c.slot-1.given.0.1.0 (found (goal.at.returns-in-At c).In-At-2) (base + (c.slot-1.given.0.0 * c.size_of.result)) c.fill-in-At.new.0 c.fill.last.0 (ap (λ (i : ℕ). base + i) (first-is (goal.at.returns-in-At c).After-size_of))
+    ap (λ (r : Answer). outcome r c.fill-in-At.new.s c.fill.new.s) c.accepted.ensures
+    ∙ get-done a.t a.m a.n a.arena.now a.table.now c.requires c.needed_order-e.result c.needed_order-e.ensures c.in-At.slot
+    c.in-At.order (found (goal.at.returns-in-At c).In-At) (base + (c.in-At.slot * c.size_of.result)) c.fill-in-At.new.s c.fill.new.s (ap (λ (i : ℕ). base + i) (first-is (goal.at.returns-in-At c).After-size_of))
     (c.fill-in-At.ensures ∙ bytes) (entries (goal.at.returns-in-At c).After-fill)

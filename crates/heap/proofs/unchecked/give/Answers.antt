@@ -8,33 +8,24 @@ use Rattle.heap.specs.declared.Call.TheVariants.{Give}
 use Rattle.heap.proofs.Accesses.{Led, plain-refused, led, at_base, locked-refused}
 use Rattle.heap.proofs.Placing.{block-slots, give-inside, give-last, give-done}
 use Rattle.heap.proofs.unchecked.give.Goals as goal
-use Rattle.heap.proofs.unchecked.give.Goals.{After-is_locked, Else-is_locked, In-Inside-2, In-Refused-2, Start}
-
-abbrev at-refusal : In-Refused-2 → Start
-at-refusal c = c{-??-}
+use Rattle.heap.proofs.unchecked.give.Goals.{After-is_locked, Else-is_locked, In-Inside}
 
 -- where p leads to a block
-module _ (c : In-Inside-2) where
-
-  home : let a = c.args in Led a.t a.m (Give a.p) a.arena.now a.table.now a.p c.s-1.given.0.0 c.s-1.given.0.1.0
-  home = led c.requires _ c.locate_plain.ensures c.s-1.given.1
+module _ (c : In-Inside) where
+  home : let a = c.args in Led a.t a.m (Give a.p) a.arena.now a.table.now a.p c.in-Inside.s c.in-Inside.e
+  home = led c.requires _ c.locate_plain.ensures c.in-Inside.is
 
 -- once p is known to be the block's start, and the lock is asked for
 module _ (c : After-is_locked) where
-
   lock-of : let a = c.args in c.is_locked.result ≡ locked_in a.t a.table.now a.p
   lock-of = let a = c.args in c.is_locked.ensures ∙ ap (locked_in a.t a.table.now) c.if-s-p.false
 
--- and found open
-abbrev block : Else-is_locked → In-Inside-2
-block c = c.before.before.before.before
-
-unlocked : (c : Else-is_locked) → let a = (entry (block c)).args in locked_in a.t a.table.now a.p ≡ false
-unlocked c = sym (lock-of c.before) ∙ c.if2.false
+unlocked : (c : Else-is_locked) → let a = c.args in locked_in a.t a.table.now a.p ≡ false
+unlocked c = let a = c.args in sym (c.is_locked.ensures ∙ ap (locked_in a.t a.table.now) c.if-s-p.false) ∙ c.if-is_locked.false
 
 pub returns-then-s-p : goal.returns-then-s-p
 returns-then-s-p c =
-    give-inside (home (goal.at.returns-then-s-p c).In-Inside-2) c.if-s-p.true c.refused-then-s-p.ensures
+    give-inside (home (goal.at.returns-then-s-p c).In-Inside) c.if-s-p.true c.refused-then-s-p.ensures
 
 pub is_locked-requires : goal.is_locked-requires
 is_locked-requires c =
@@ -43,33 +34,33 @@ is_locked-requires c =
 
 pub returns-then-is_locked : goal.returns-then-is_locked
 returns-then-is_locked c =
-    locked-refused (home (goal.at.returns-then-is_locked c).In-Inside-2) (give-last (home (goal.at.returns-then-is_locked c).In-Inside-2) c.if-s-p.false) (sym (lock-of (goal.at.returns-then-is_locked c).After-is_locked) ∙ c.if-is_locked.true)
+    locked-refused (home (goal.at.returns-then-is_locked c).In-Inside) (give-last (home (goal.at.returns-then-is_locked c).In-Inside) c.if-s-p.false) (sym (lock-of (goal.at.returns-then-is_locked c).After-is_locked) ∙ c.if-is_locked.true)
     c.refused-then-is_locked.ensures
 
 pub offset-requires : goal.offset-requires
-offset-requires c = at_base (home (block (goal.at.offset-requires c).Else-is_locked))
+offset-requires c = at_base (home (goal.at.offset-requires c).In-Inside)
 
 pub overflow_shr-offset : goal.overflow_shr-offset
 overflow_shr-offset c =
-    let s = (entry (block (goal.at.overflow_shr-offset c).Else-is_locked)).pre.sound in
+    let s = c.requires.sound in
     omega (arith, s.slot-high, s.high)
 
 pub slots_of-requires : goal.slots_of-requires
 slots_of-requires c =
-    let w = (home (block (goal.at.slots_of-requires c).Else-is_locked)).within in
+    let w = (home (goal.at.slots_of-requires c).In-Inside).within in
     (w.aligned.low, w.order)
 
 pub fill-requires : goal.fill-requires
 fill-requires c =
     let same = ap (λ (x : ℕ). x - base) (sym c.if-s-p.false) in
-    block-slots (home (block (goal.at.fill-requires c).Else-is_locked)) (c.offset.ensures ∙ same) c.slots_of.ensures
+    block-slots (home (goal.at.fill-requires c).In-Inside) (c.offset.ensures ∙ same) c.slots_of.ensures
 
 pub returns-in-Refused : goal.returns-in-Refused
 unfolding state_rules
 returns-in-Refused c =
-    plain-refused (at-refusal (goal.at.returns-in-Refused c).In-Refused-2).requires _ c.locate_plain.ensures _ refl c.number-1.given.1 c.refused.ensures
+    plain-refused c.requires _ c.locate_plain.ensures _ refl c.in-Refused.is c.refused.ensures
 
 pub returns-else-is_locked : goal.returns-else-is_locked
 returns-else-is_locked c =
-    give-done (home (block (goal.at.returns-else-is_locked c).Else-is_locked)) c.if-s-p.false (unlocked (goal.at.returns-else-is_locked c).Else-is_locked) c.offset.ensures c.slots_of.ensures
+    give-done (home (goal.at.returns-else-is_locked c).In-Inside) c.if-s-p.false (unlocked (goal.at.returns-else-is_locked c).Else-is_locked) c.offset.ensures c.slots_of.ensures
     c.fill.ensures c.accepted.ensures

@@ -5,35 +5,29 @@ use Rattle.heap.specs.Rules.{state_rules}
 use Rattle.heap.specs.declared.Call.TheVariants.{Grid}
 use Rattle.heap.proofs.Accesses.{Led, plain-refused, led, left-asks, short-refused, grid-done}
 use Rattle.heap.proofs.unchecked.grid.Goals as goal
-use Rattle.heap.proofs.unchecked.grid.Goals.{After-wide-in-Inside, After-wide-in-Inside-3, In-Inside-2, In-Refused-2, Start}
+use Rattle.heap.proofs.unchecked.grid.Goals.{After-wide-in-Inside, After-wide-in-Inside-3, In-Inside}
 
 product : (x y : ℕ) → x < 256 → y < 256 → x * y < 65026
 product x y h k = let z : x * y ≤ 255 * 255 = mul-le-mul {n₂ = 255} {m₂ = 255} (omega arith) (omega arith) in omega arith
 
-abbrev at-refusal : In-Refused-2 → Start
-at-refusal c = c.before.before.before.before.before
-
 -- where p leads to a block
-module _ (c : In-Inside-2) where
-
+module _ (c : In-Inside) where
   home : let a = c.args in
       Led a.t a.m (Grid a.p a.rows a.columns a.row a.column) a.arena.now a.table.now a.p
-      c.s-1.given.0.0 c.s-1.given.0.1.0
-  home = led c.requires _ c.locate_plain.ensures c.s-1.given.1
+      c.in-Inside.s c.in-Inside.e
+  home = led c.requires _ c.locate_plain.ensures c.in-Inside.is
 
 -- the grid's size, as the code has it
 module _ (c : After-wide-in-Inside) where
-
   size_is : c.wide.result * c.wide-in-Inside.result ≡ c.args.rows * c.args.columns
   size_is = ap₂ ◌*◌ c.wide.ensures c.wide-in-Inside.ensures
 
 -- how far the place lies from p
 module _ (c : After-wide-in-Inside-3) where
-
   low : c.args.p < 2 ^ 17
   low = let x = ((let h : let a = c.args in
       Led a.t a.m (Grid a.p a.rows a.columns a.row a.column) a.arena.now a.table.now a.p
-      c.s-1.given.0.0 c.s-1.given.0.1.0 = led c.requires _ c.locate_plain.ensures c.s-1.given.1 in h)).within in omega (arith, x.high, x.inside, x.top)
+      c.in-Inside.s c.in-Inside.e = led c.requires _ c.locate_plain.ensures c.in-Inside.is in h)).within in omega (arith, x.high, x.inside, x.top)
 
   rows_on : c.wide-in-Inside-2.result * c.wide-in-Inside-3.result < 65026
   rows_on = product c.wide-in-Inside-2.result c.wide-in-Inside-3.result (omega arith) (omega arith)
@@ -42,7 +36,7 @@ module _ (c : After-wide-in-Inside-3) where
   rows_are = ap₂ ◌*◌ c.wide-in-Inside-2.ensures c.wide-in-Inside-3.ensures
 
 pub left_in-requires : goal.left_in-requires
-left_in-requires c = left-asks (home (goal.at.left_in-requires c).In-Inside-2)
+left_in-requires c = left-asks (home (goal.at.left_in-requires c).In-Inside)
 
 pub overflow_mul-wide : goal.overflow_mul-wide
 overflow_mul-wide c = omega (arith, product c.wide.result c.wide-in-Inside.result (omega arith) (omega arith))
@@ -50,7 +44,7 @@ overflow_mul-wide c = omega (arith, product c.wide.result c.wide-in-Inside.resul
 pub returns-then-left_in-wide : goal.returns-then-left_in-wide
 unfolding state_rules
 returns-then-left_in-wide c =
-    short-refused (home (goal.at.returns-then-left_in-wide c).In-Inside-2) _ _ refl (omega (arith, size_is (goal.at.returns-then-left_in-wide c).After-wide-in-Inside, c.left_in.ensures, c.if-left_in-wide.true)) c.refused-then-left_in-wide.ensures
+    short-refused (home (goal.at.returns-then-left_in-wide c).In-Inside) _ _ refl (omega (arith, size_is (goal.at.returns-then-left_in-wide c).After-wide-in-Inside, c.left_in.ensures, c.if-left_in-wide.true)) c.refused-then-left_in-wide.ensures
 
 pub overflow_mul-wide-in-Inside : goal.overflow_mul-wide-in-Inside
 overflow_mul-wide-in-Inside c = omega (arith, rows_on c)
@@ -64,10 +58,10 @@ overflow_add-p-in-Inside c = omega (arith, low (goal.at.overflow_add-p-in-Inside
 pub returns-in-Refused : goal.returns-in-Refused
 unfolding state_rules
 returns-in-Refused c =
-    plain-refused (at-refusal (goal.at.returns-in-Refused c).In-Refused-2).requires _ c.locate_plain.ensures _ refl c.number-1.given.1 c.refused.ensures
+    plain-refused c.requires _ c.locate_plain.ensures _ refl c.in-Refused.is c.refused.ensures
 
 pub returns-else-left_in-wide : goal.returns-else-left_in-wide
 returns-else-left_in-wide c =
     let sum = ap₂ (λ (x y : ℕ). c.args.p + x + y) (rows_are (goal.at.returns-else-left_in-wide c).After-wide-in-Inside-3) c.wide-in-Inside-4.ensures in
-    grid-done (omega (arith, size_is (goal.at.returns-else-left_in-wide c).After-wide-in-Inside, c.left_in.ensures, c.if-left_in-wide.false)) (home (goal.at.returns-else-left_in-wide c).In-Inside-2)
+    grid-done (omega (arith, size_is (goal.at.returns-else-left_in-wide c).After-wide-in-Inside, c.left_in.ensures, c.if-left_in-wide.false)) (home (goal.at.returns-else-left_in-wide c).In-Inside)
     (rw (← sum) c.accepted.ensures)

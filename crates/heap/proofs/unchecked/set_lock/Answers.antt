@@ -6,19 +6,15 @@ use Rattle.heap.specs.declared.Call.TheVariants.{SetLock}
 use Rattle.heap.proofs.Accesses.{Led, plain-refused, led}
 use Rattle.heap.proofs.Placing.{block-slots, lock-done}
 use Rattle.heap.proofs.unchecked.set_lock.Goals as goal
-use Rattle.heap.proofs.unchecked.set_lock.Goals.{In-Inside-2, In-Refused-2, Start}
-
-abbrev at-refusal : In-Refused-2 → Start
-at-refusal c = c{-??-}
+use Rattle.heap.proofs.unchecked.set_lock.Goals.{In-Inside}
 
 -- where p leads to a block
-module _ (c : In-Inside-2) where
-
-  home : let a = c.args in Led a.t a.m (SetLock a.p a.locked) a.arena.now a.table.now a.p c.s-1.given.0.0 c.s-1.given.0.1.0
-  home = led c.requires _ c.locate_plain.ensures c.s-1.given.1
+module _ (c : In-Inside) where
+  home : let a = c.args in Led a.t a.m (SetLock a.p a.locked) a.arena.now a.table.now a.p c.in-Inside.s c.in-Inside.e
+  home = led c.requires _ c.locate_plain.ensures c.in-Inside.is
 
 pub offset-requires : goal.offset-requires
-offset-requires c = (home (goal.at.offset-requires c).In-Inside-2).within.above
+offset-requires c = (home (goal.at.offset-requires c).In-Inside).within.above
 
 pub overflow_shr-first : goal.overflow_shr-first
 overflow_shr-first c =
@@ -26,22 +22,22 @@ overflow_shr-first c =
     omega (arith, s.slot-high, s.high)
 
 pub entry_of-entry-requires : goal.entry_of-entry-requires
-entry_of-entry-requires c = (home (goal.at.entry_of-entry-requires c).In-Inside-2).within.order
+entry_of-entry-requires c = (home (goal.at.entry_of-entry-requires c).In-Inside).within.order
 
 pub slots_of-requires : goal.slots_of-requires
 slots_of-requires c =
-    let w = (home (goal.at.slots_of-requires c).In-Inside-2).within in
+    let w = (home (goal.at.slots_of-requires c).In-Inside).within in
     (omega (arith, w.aligned.low), omega (arith, w.aligned.low, w.order))
 
 pub fill-requires : goal.fill-requires
 fill-requires c =
-    block-slots (home (goal.at.fill-requires c).In-Inside-2) c.offset.ensures c.slots_of.ensures
+    block-slots (home (goal.at.fill-requires c).In-Inside) c.offset.ensures c.slots_of.ensures
 
 pub returns-in-Refused : goal.returns-in-Refused
 unfolding state_rules
 returns-in-Refused c =
-    plain-refused (at-refusal (goal.at.returns-in-Refused c).In-Refused-2).requires _ c.locate_plain.ensures _ refl c.number-1.given.1 c.refused.ensures
+    plain-refused c.requires _ c.locate_plain.ensures _ refl c.in-Refused.is c.refused.ensures
 
 pub returns-in-Inside : goal.returns-in-Inside
 returns-in-Inside c =
-    lock-done (home (goal.at.returns-in-Inside c).In-Inside-2) c.offset.ensures c.slots_of.ensures c.entry_of-entry.ensures c.fill.ensures c.accepted.ensures
+    lock-done (home (goal.at.returns-in-Inside c).In-Inside) c.offset.ensures c.slots_of.ensures c.entry_of-entry.ensures c.fill.ensures c.accepted.ensures

@@ -5,16 +5,16 @@ use Rattle.blocks.specs.Pointers.{wrapped_sum, check_bits}
 use Rattle.heap.specs.Inner.{Holding}
 use Rattle.heap.proofs.Stepping.{reach-small, end_low, stepped-inside, stepped-before, stepped-past, stepped-beyond}
 use Rattle.heap.proofs.unchecked.stepped.Goals as goal
-use Rattle.heap.proofs.unchecked.stepped.Goals.{After-size_of-reach}
+use Rattle.heap.proofs.unchecked.stepped.Goals.{After-size_of-reach, else-s-reach-via-then-s-reach+else-r-s, else-s-reach-via-else-s-reach, else-end-r-via-then-end-r+else-r-end, else-end-r-via-else-end-r}
 
 pub returns-then-passes : goal.returns-then-passes
 returns-then-passes c =
     c.accepted.ensures
-    ∙ stepped-inside _ _ _ _ _ _ _ c.requires c.wrapping_add_u32-r.ensures (sym c.passes.ensures.0 ∙ c.if-passes.true)
+    ∙ stepped-inside _ _ _ _ _ _ _ c.requires c.wrapping_add_u32-r.ensures.value (sym c.passes.ensures.by_bits ∙ c.if-passes.true)
 
 pub overflow_add-end : goal.overflow_add-end
 overflow_add-end c =
-    omega (arith, end_low _ _ _ _ _ _ _ c.requires c.wrapping_add_u32-r.ensures, c.size_of.ensures)
+    omega (arith, end_low _ _ _ _ _ _ _ c.requires c.wrapping_add_u32-r.ensures.value, c.size_of.ensures)
 
 pub overflow_sub-t : goal.overflow_sub-t
 overflow_sub-t c = let h = c.requires in omega (arith, h.slot-low)
@@ -23,15 +23,14 @@ pub size_of-reach-requires : goal.size_of-reach-requires
 size_of-reach-requires c = let h = c.requires in omega (arith, h.slot-high)
 
 module _ (c : After-size_of-reach) where
-
   held : Holding c.args.t c.args.s c.args.e c.args.h c.args.q
   held = c.requires
 
   sum : c.wrapping_add_u32-r.result ≡ wrapped_sum c.args.q c.args.i
-  sum = c.wrapping_add_u32-r.ensures
+  sum = c.wrapping_add_u32-r.ensures.value
 
   fails : check_bits c.args.e c.args.h (wrapped_sum c.args.q c.args.i) ≡ false
-  fails = sym c.passes.ensures.0 ∙ c.if-passes.false
+  fails = sym c.passes.ensures.by_bits ∙ c.if-passes.false
 
   -- the block's end, and the reach past it, lie in the lower half
   end : c.args.s + c.size_of.result + c.size_of-reach.result < 2 ^ 31
@@ -61,5 +60,11 @@ pub returns : goal.returns
 returns c =
     c.refused.ensures
     ∙ stepped-beyond _ _ _ _ _ _ _ (held (goal.at.returns c).After-size_of-reach) (sum (goal.at.returns c).After-size_of-reach) (fails (goal.at.returns c).After-size_of-reach)
-    (λ l. ⊎_elim (λ w. omega (arith, ltb-false)) (λ w. omega arith) c.else-s-reach.branch)
-    (λ l. ⊎_elim (λ w. omega (arith, ltb-false)) (λ w. omega arith) c.else-end-r.branch)
+    (λ l. elim c.else-s-reach.branch [
+      | else-s-reach-via-then-s-reach+else-r-s w ↦ omega (arith, c.size_of-reach.ensures)
+      | else-s-reach-via-else-s-reach w ↦ omega (arith, c.size_of-reach.ensures)
+    ])
+    (λ l. elim c.else-end-r.branch [
+      | else-end-r-via-then-end-r+else-r-end w ↦ omega (arith, c.size_of.ensures, c.size_of-reach.ensures)
+      | else-end-r-via-else-end-r w ↦ omega (arith, c.size_of.ensures)
+    ])
