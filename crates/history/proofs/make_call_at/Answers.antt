@@ -9,6 +9,7 @@ use Rattle.heap.specs.Heaps.{Heap, heap_of, heap_step}
 use Rattle.heap.specs.declared.Call.{Call}
 use Rattle.history.specs.Replaying.{call_named, second_byte, call_at}
 use Rattle.history.proofs.Encoding.{call-is, grid-is}
+use Rattle.heap.specs.Rules.{argument_rules}
 use Rattle.history.proofs.make_call_at.Goals as goal
 use Rattle.history.proofs.make_call_at.Goals.{After-read_number-c}
 
@@ -68,4 +69,33 @@ returns-in-10 c =
 pub returns-in_default : goal.returns-in_default
 returns-in_default c =
     let y : ℕ → ℕ = second_byte c.args.s.now c.args.at in
-    made (goal.at.returns-in_default c).After-read_number-c (grid-is _ _ _ c.read_number-b.result c.read_number-c.result y c.in_default.rest ∙ read (goal.at.returns-in_default c).After-read_number-c _ refl) c.make_grid_at.ensures
+    made (goal.at.returns-in_default c).After-read_number-c (grid-is _ _ _ c.read_number-b.result c.read_number-c.result y c.in_default.in_default-own.rest ∙ read (goal.at.returns-in_default c).After-read_number-c _ refl) c.make_grid_at.ensures
+
+-- a call that no argument refuses is ready on a sound heap
+pub give-requires : goal.give-requires
+unfolding argument_rules
+give-requires c = record { sound = c.requires.sound; arguments = refl }
+
+pub step-requires : goal.step-requires
+unfolding argument_rules
+step-requires c = record { sound = c.requires.sound; arguments = refl }
+
+pub left-requires : goal.left-requires
+unfolding argument_rules
+left-requires c = record { sound = c.requires.sound; arguments = refl }
+
+pub copy-requires : goal.copy-requires
+unfolding argument_rules
+copy-requires c = record { sound = c.requires.sound; arguments = refl }
+
+pub fill-requires : goal.fill-requires
+unfolding argument_rules
+fill-requires c = record { sound = c.requires.sound; arguments = refl }
+
+pub set_lock-requires : goal.set_lock-requires
+unfolding argument_rules
+set_lock-requires c = record { sound = c.requires.sound; arguments = refl }
+
+pub set_lock-requires-in-10 : goal.set_lock-requires-in-10
+unfolding argument_rules
+set_lock-requires-in-10 c = record { sound = c.requires.sound; arguments = refl }

@@ -15,14 +15,14 @@ use Rattle.history.proofs.refusal.Goals as goal
 use Rattle.history.proofs.refusal.Goals.{Else-any_unknown, Else-calls-ne0, Else-order_of-eq0}
 
 -- what each test that was passed says
-whole-calls : (c : Else-calls-ne0) → not (eqb (length (at_first c).args.calls.now % call_length) 0) ≡ false
-whole-calls c = ap not (eq-eqb _ _ c.if1.false)
+whole-calls : (c : Else-calls-ne0) → not (eqb (length c.args.calls.now % call_length) 0) ≡ false
+whole-calls c = ap not (eq-eqb _ _ c.if-calls-ne0.false)
 
-all_known : (c : Else-any_unknown) → let s = (at_first (whole c)).args.calls.now in unknown_from s 0 (call_count s) ≡ false
-all_known c = sym c.before.any-unknown.ensures ∙ c.if2.false
+all_known : (c : Else-any_unknown) → let s = c.args.calls.now in unknown_from s 0 (call_count s) ≡ false
+all_known c = sym c.any_unknown.ensures ∙ c.if-any_unknown.false
 
-good-sizes : (c : Else-order_of-eq0) → let s = (at_first (whole (known c))).args in (view_of (heap_of s.arena.now s.table.now)).wrong-sizes ≡ false
-good-sizes c = order-fits _ _ c.before.order-of.ensures c.if3.false
+good-sizes : (c : Else-order_of-eq0) → let s = c.args in (view_of (heap_of s.arena.now s.table.now)).wrong-sizes ≡ false
+good-sizes c = order-fits _ _ c.order_of.ensures c.if-order_of-eq0.false
 
 pub returns-then-calls-ne0 : goal.returns-then-calls-ne0
 returns-then-calls-ne0 c =

@@ -17,29 +17,23 @@ module _ (c : After-order_of-m) where
 
 pub returns-then-number-ne0 : goal.returns-then-number-ne0
 returns-then-number-ne0 c =
-    let a = (c {-??-}).args in
+    let a = c.args in
     refused-is a.calls.now a.arena.now a.table.now a.out.now _ c.refusal-number.ensures c.if-number-ne0.true
 
 pub loop-i-init : goal.loop-i-init
 loop-i-init c =
     let f = c.fresh in
-    replays-start _ _ c.args.arena.now c.args.table.now _ f.new.0 f.new.1.0 f.result (fine (goal.at.loop-i-init c).After-order_of-m) f.ensures
+    replays-start _ _ c.args.arena.now c.args.table.now _ f.new.arena f.new.table f.result (fine (goal.at.loop-i-init c).After-order_of-m) f.ensures
 
 pub overflow_mul-i : goal.overflow_mul-i
 overflow_mul-i c = omega arith
 
 pub make_call_at-answer-requires : goal.make_call_at-answer-requires
-make_call_at-answer-requires c = (replays-sound c.loop-i.invariant, omega arith)
+make_call_at-answer-requires c = record { sound = replays-sound c.loop-i.invariant; call_length_in_bounds = omega arith }
 
 -- the calls are fewer than the bytes of a slice can be
-pub overflow_mul-i-in-loop-i : goal.overflow_mul-i-in-loop-i
-overflow_mul-i-in-loop-i c = omega (arith, (s (c.before.before.before.before.before.before.before.before)).good.1.1.0.0)
-
 pub store-requires : goal.store-requires
 store-requires c = omega (arith, c.loop-i.invariant.room, c.loop-i-test.true)
-
-pub overflow_add-i : goal.overflow_add-i
-overflow_add-i c = omega (arith, (s (c.before.before.before.before.before.before.before.before)).good.1.1.0.0)
 
 pub loop-i-smaller : goal.loop-i-smaller
 loop-i-smaller c = omega arith
@@ -48,14 +42,14 @@ pub loop-i-preserved : goal.loop-i-preserved
 loop-i-preserved c =
     let out = c.store in
     let made = c.make_call_at-answer in
-    replays-step c.loop-i.invariant c.loop-i-test.true made.result made.last.0 made.last.1.0 out.last.0 made.ensures
-    out.ensures out.kept.0
+    replays-step c.loop-i.invariant c.loop-i-test.true made.result made.new.arena made.new.table out.new.out made.ensures
+    out.ensures out.auto.out
 
 pub shape_of-arena : goal.shape_of-arena
-shape_of-arena c = (replays-sound c.loop-i.invariant).size ∙ sym (fine (c.before.before.before.before.before.before.before.before)).sized.size
+shape_of-arena c = (replays-sound c.loop-i.invariant).size ∙ sym (fine (goal.at.shape_of-arena c).After-order_of-m).sized.size
 
 pub shape_of-table : goal.shape_of-table
-shape_of-table c = (replays-sound c.loop-i.invariant).slots ∙ sym (fine (c.before.before.before.before.before.before.before.before)).sized.slots
+shape_of-table c = (replays-sound c.loop-i.invariant).slots ∙ sym (fine (goal.at.shape_of-table c).After-order_of-m).sized.slots
 
 pub shape_of-out : goal.shape_of-out
 shape_of-out c = c.loop-i.invariant.same
