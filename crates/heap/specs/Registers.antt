@@ -1,5 +1,5 @@
 -- Document 01, "A take": the sixteen registers.
-use Rattle.std.specs.Prelude.{ℕ, cond, List, set, replicate, nat_lt, slice_index, slice_set}
+use Rattle.std.specs.Prelude.{ℕ, cond, List, replicate, nat_lt, slice_index, slice_set}
 use Rattle.std.proofs.Math.Option.{Option, none, some}
 
 abbrev pub register_count : ℕ

@@ -1,7 +1,7 @@
 -- The measure is k, the order; an answer is given its value first, as μ. Each return has its law in `Searches`, for whatever table the part is of.
 use Rattle.std.proofs.Common.{◌≡◌, ℕ, ◌+◌, ◌-◌, ◌*◌, ◌/◌, ◌%◌, ◌^◌, ◌<◌, true, false, ◌&&◌, eqb, leb, List, length, get_or, take, drop, ◌∙◌}
 use Rattle.std.proofs.Common.{sym, ap, subst, arith, length-drop, length-take, get_or-drop, get_or-take, ltb-true, eq-eqb, ne_eqb}
-use Rattle.blocks.specs.Tables.{entry_order, free_in}
+use Rattle.blocks.specs.Tables.{free_in}
 use Rattle.blocks.specs.Placing.{all_free, place_in}
 use Rattle.blocks.specs.Inner.{as_free, PartOf, key_of}
 use Rattle.common.proofs.Booleans.{and_right}

@@ -1,5 +1,5 @@
 -- There are sixteen registers, so past the last one `with_value` stores nothing (`put-done`).
-use Rattle.std.proofs.Common.{◌≡◌, ℕ, ◌<◌, Bool, true, false, cond, ltb, List, length, set, refl, ap, arith, rules, ltb-false}
+use Rattle.std.proofs.Common.{◌≡◌, ℕ, Bool, true, false, cond, ltb, List, length, set, refl, ap, arith, rules, ltb-false}
 use lib.Seq.{set_out}
 use Rattle.heap.specs.Registers.{register_count, put_to, put_number, put_in}
 use Rattle.heap.proofs.registers.put.Goals as goal

@@ -1,5 +1,5 @@
 -- `locate_plain` leads p to a number, which refuses the check (`check-led-refused`), or to a block, of whose order `passes` answers (`check-found`).
-use Rattle.std.proofs.Common.{◌≡◌, sym, ap, ◌∙◌, ⊎_elim}
+use Rattle.std.proofs.Common.{◌≡◌, sym, ap, ◌∙◌}
 use Rattle.heap.specs.Heaps.{bit}
 use Rattle.heap.proofs.Settling.{answer}
 use Rattle.heap.proofs.Stepping.{check-led-refused, check-order, check-found}

@@ -1,6 +1,6 @@
 -- The code's sum wraps, and its comparisons say where it lies: inside by the check, in reach before the block or past it, or beyond (the four laws `stepped-..`
 -- of Stepping). The block's end and the reach past it lie in the lower half (`end_low`), so nothing overflows.
-use Rattle.std.proofs.Common.{◌≡◌, ◌+◌, ◌^◌, ◌<◌, false, sym, ◌∙◌, ⊎_elim, arith, ltb-false, ltb-true}
+use Rattle.std.proofs.Common.{◌≡◌, ◌+◌, ◌^◌, ◌<◌, false, sym, ◌∙◌, arith, ltb-true}
 use Rattle.blocks.specs.Pointers.{wrapped_sum, check_bits}
 use Rattle.heap.specs.Inner.{Holding}
 use Rattle.heap.proofs.Stepping.{reach-small, end_low, stepped-inside, stepped-before, stepped-past, stepped-beyond}
