@@ -1,6 +1,6 @@
 /* The heap with baggy bounds and the runner of takes, for the device's C and C++ code.
  *
- * Link with target/staticlib/libcabi.a, which `rt staticlib cabi` makes for x86-64. It needs memset and memmove
+ * Link with crates/cabi/out/libcabi.a, which `rt lib` in crates/cabi makes for x86-64. It needs memset and memmove
  * of the C library.
  *
  * Lent buffers. The heap owns no memory: each call is lent the arena (a power of two from 32 to 65,536
