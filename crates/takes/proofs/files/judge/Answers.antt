@@ -1,3 +1,4 @@
+-- A law of `WholeFiles` for each return and for a turn of the loop, from the head that was judged and the record that was not refused.
 use Prim.Native.Nat.{ℕ}
 use mathlib.Core.Path.{◌≡◌, refl, sym, ◌∙◌}
 use mathlib.Core.List.{List}
@@ -30,7 +31,9 @@ loop-at-init c = judging-start c.args.file.now (head c).both
 
 pub returns-then-number-ne0-2 : goal.returns-then-number-ne0-2
 returns-then-number-ne0-2 c =
-    judging-stop c.args.file.now (no_number (goal.at.returns-then-number-ne0-2 c).Else-number-ne0) c.loop-at.at c.loop-at.count c.refusal-number.result c.loop-at.invariant c.loop-at-test.true
+    let n = no_number (goal.at.returns-then-number-ne0-2 c).Else-number-ne0 in
+    let l = c.loop-at in
+    judging-stop c.args.file.now n l.at l.count c.refusal-number.result l.invariant c.loop-at-test.true
     c.refusal-number.ensures c.if-number-ne0-2.true
 
 -- a record that was not refused
@@ -43,7 +46,10 @@ strays-requires c = good c
 
 pub returns-then-strays : goal.returns-then-strays
 returns-then-strays c =
-    judging-stray c.args.file.now (no_number (goal.at.returns-then-strays c).Else-number-ne0) c.loop-at.at c.loop-at.count _ _ c.loop-at.invariant (next-judged c.args.file.now c.loop-at.at (good (goal.at.returns-then-strays c).Else-number-ne0-2) _ refl)
+    let at = goal.at.returns-then-strays c in
+    let file = c.args.file.now in
+    let l = c.loop-at in
+    judging-stray file (no_number at.Else-number-ne0) l.at l.count _ _ l.invariant (next-judged file l.at (good at.Else-number-ne0-2) _ refl)
     (sym c.strays.ensures ∙ c.if-strays.true)
 
 -- that goes on, or back
@@ -56,7 +62,7 @@ module _ (c : After-next-at) where
   bytes = c.args.file.now
 
   after : Next bytes c.loop-at.at (the_record (drop c.loop-at.at bytes)) c.next-at.result
-  after = next-judged bytes c.loop-at.at ((let h : (read_at c.args.file.now c.loop-at.at).number ≡ 0 = sym c.refusal-number.ensures ∙ c.if-number-ne0-2.false in h)) c.next-at.result c.next-at.ensures
+  after = next-judged bytes c.loop-at.at (sym c.refusal-number.ensures ∙ c.if-number-ne0-2.false) c.next-at.result c.next-at.ensures
 
 pub overflow_add-count : goal.overflow_add-count
 overflow_add-count c = omega arith
@@ -74,4 +80,6 @@ bounds-file-1 c = omega (arith, (head (goal.at.bounds-file-1 c).Else-number-ne0)
 
 pub returns : goal.returns
 returns c =
-    judging-end c.args.file.now (no_number (goal.at.returns c).Else-number-ne0) c.loop-at.at c.loop-at.count c.wide.result c.loop-at.invariant c.loop-at-test.false c.wide.ensures
+    let n = no_number (goal.at.returns c).Else-number-ne0 in
+    let l = c.loop-at in
+    judging-end c.args.file.now n l.at l.count c.wide.result l.invariant c.loop-at-test.false c.wide.ensures

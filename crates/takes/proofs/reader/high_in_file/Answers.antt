@@ -10,7 +10,7 @@ use Rattle.takes.proofs.reader.high_in_file.Goals as goal
 use Rattle.takes.proofs.reader.high_in_file.Goals.{Else-wide-ge-REGISTERS, Else-wide-ge-REGISTERS-2, Start}
 
 tested : (c : Start) → Tested c.args.file.now c.args.at c.args.kinds
-tested c = record { listed = c.requires.0; coded = c.requires.1.0; fit = c.requires.1.1 }
+tested c = record { listed = c.requires.file_value; coded = c.requires.kinds_value; fit = c.requires.file_in_bounds }
 
 pub overflow_add-at : goal.overflow_add-at
 overflow_add-at c = omega (arith, first-inside (tested (goal.at.overflow_add-at c).Start))
@@ -19,7 +19,8 @@ pub bounds-file-at : goal.bounds-file-at
 bounds-file-at c = first-inside (tested (goal.at.bounds-file-at c).Start)
 
 pub returns-then-wide-ge-REGISTERS : goal.returns-then-wide-ge-REGISTERS
-returns-then-wide-ge-REGISTERS c = first-high (tested (goal.at.returns-then-wide-ge-REGISTERS c).Start) (omega (arith, c.wide.ensures, c.if-wide-ge-REGISTERS.true))
+returns-then-wide-ge-REGISTERS c =
+    first-high (tested (goal.at.returns-then-wide-ge-REGISTERS c).Start) (omega (arith, c.wide.ensures, c.if-wide-ge-REGISTERS.true))
 
 -- it is not high
 module _ (c : Else-wide-ge-REGISTERS) where
@@ -27,17 +28,25 @@ module _ (c : Else-wide-ge-REGISTERS) where
   low = omega (arith, c.wide.ensures, c.if-wide-ge-REGISTERS.false)
 
 pub returns-then-kinds-lt8 : goal.returns-then-kinds-lt8
-returns-then-kinds-lt8 c = no_second (tested (goal.at.returns-then-kinds-lt8 c).Start) (low (goal.at.returns-then-kinds-lt8 c).Else-wide-ge-REGISTERS) c.if-kinds-lt8.true
+returns-then-kinds-lt8 c =
+    let at = goal.at.returns-then-kinds-lt8 c in
+    no_second (tested at.Start) (low at.Else-wide-ge-REGISTERS) c.if-kinds-lt8.true
 
 pub overflow_add-at-2 : goal.overflow_add-at-2
-overflow_add-at-2 c = omega (arith, second-inside (tested (goal.at.overflow_add-at-2 c).Start) (low (goal.at.overflow_add-at-2 c).Else-wide-ge-REGISTERS) c.if-kinds-lt8.false)
+overflow_add-at-2 c =
+    let at = goal.at.overflow_add-at-2 c in
+    omega (arith, second-inside (tested at.Start) (low at.Else-wide-ge-REGISTERS) c.if-kinds-lt8.false)
 
 pub bounds-file-at-2 : goal.bounds-file-at-2
-bounds-file-at-2 c = second-inside (tested (goal.at.bounds-file-at-2 c).Start) (low (goal.at.bounds-file-at-2 c).Else-wide-ge-REGISTERS) c.if-kinds-lt8.false
+bounds-file-at-2 c =
+    let at = goal.at.bounds-file-at-2 c in
+    second-inside (tested at.Start) (low at.Else-wide-ge-REGISTERS) c.if-kinds-lt8.false
 
 pub returns-then-wide-ge-REGISTERS-2 : goal.returns-then-wide-ge-REGISTERS-2
 returns-then-wide-ge-REGISTERS-2 c =
-    second-high (tested (goal.at.returns-then-wide-ge-REGISTERS-2 c).Start) (low (goal.at.returns-then-wide-ge-REGISTERS-2 c).Else-wide-ge-REGISTERS) c.if-kinds-lt8.false (omega (arith, c.wide-2.ensures, c.if-wide-ge-REGISTERS-2.true))
+    let at = goal.at.returns-then-wide-ge-REGISTERS-2 c in
+    second-high (tested at.Start) (low at.Else-wide-ge-REGISTERS) c.if-kinds-lt8.false
+    (omega (arith, c.wide-2.ensures, c.if-wide-ge-REGISTERS-2.true))
 
 -- it is not high either
 module _ (c : Else-wide-ge-REGISTERS-2) where
@@ -45,17 +54,26 @@ module _ (c : Else-wide-ge-REGISTERS-2) where
   low-2 = omega (arith, c.wide-2.ensures, c.if-wide-ge-REGISTERS-2.false)
 
 pub returns-then-kinds-lt8-2 : goal.returns-then-kinds-lt8-2
-returns-then-kinds-lt8-2 c = no_third (tested (goal.at.returns-then-kinds-lt8-2 c).Start) (low (goal.at.returns-then-kinds-lt8-2 c).Else-wide-ge-REGISTERS) c.if-kinds-lt8.false (low-2 (goal.at.returns-then-kinds-lt8-2 c).Else-wide-ge-REGISTERS-2) c.if-kinds-lt8-2.true
+returns-then-kinds-lt8-2 c =
+    let at = goal.at.returns-then-kinds-lt8-2 c in
+    no_third (tested at.Start) (low at.Else-wide-ge-REGISTERS) c.if-kinds-lt8.false (low-2 at.Else-wide-ge-REGISTERS-2)
+    c.if-kinds-lt8-2.true
 
 pub overflow_add-at-3 : goal.overflow_add-at-3
 overflow_add-at-3 c =
-    omega (arith, third-inside (tested (goal.at.overflow_add-at-3 c).Start) (low (goal.at.overflow_add-at-3 c).Else-wide-ge-REGISTERS) c.if-kinds-lt8.false (low-2 (goal.at.overflow_add-at-3 c).Else-wide-ge-REGISTERS-2) c.if-kinds-lt8-2.false)
+    let at = goal.at.overflow_add-at-3 c in
+    let l = low-2 at.Else-wide-ge-REGISTERS-2 in
+    omega (arith, third-inside (tested at.Start) (low at.Else-wide-ge-REGISTERS) c.if-kinds-lt8.false l c.if-kinds-lt8-2.false)
 
 pub bounds-file-at-3 : goal.bounds-file-at-3
 bounds-file-at-3 c =
-    third-inside (tested (goal.at.bounds-file-at-3 c).Start) (low (goal.at.bounds-file-at-3 c).Else-wide-ge-REGISTERS) c.if-kinds-lt8.false (low-2 (goal.at.bounds-file-at-3 c).Else-wide-ge-REGISTERS-2) c.if-kinds-lt8-2.false
+    let at = goal.at.bounds-file-at-3 c in
+    let l = low-2 at.Else-wide-ge-REGISTERS-2 in
+    third-inside (tested at.Start) (low at.Else-wide-ge-REGISTERS) c.if-kinds-lt8.false l c.if-kinds-lt8-2.false
 
 pub returns : goal.returns
 returns c =
+    let at = goal.at.returns c in
+    let l = low-2 at.Else-wide-ge-REGISTERS-2 in
     ap (leb register_count) c.wide-3.ensures
-    ∙ third-tells (tested (goal.at.returns c).Start) (low (goal.at.returns c).Else-wide-ge-REGISTERS) c.if-kinds-lt8.false (low-2 (goal.at.returns c).Else-wide-ge-REGISTERS-2) c.if-kinds-lt8-2.false
+    ∙ third-tells (tested at.Start) (low at.Else-wide-ge-REGISTERS) c.if-kinds-lt8.false l c.if-kinds-lt8-2.false

@@ -21,13 +21,12 @@ returns-then-file-place c =
 
 -- past 4: the record's bytes are there, and its row is looked up
 module _ (c : After-row_of-row) where
-
   counted : Counted c.args.file.now c.args.at c.index.result c.row_of-row.result
   counted =
       record {
         nonzero = c.if-count-eq0.false;
         length-is = c.index.ensures;
-        c.before.before = c.if-file-place.false;
+        enough = c.if-file-place.false;
         row_is = c.row_of-row.ensures;
       }
 
@@ -36,26 +35,32 @@ returns-then-row-eq0 c = the_number (unlisted (counted (goal.at.returns-then-row
 
 pub returns-then-wide-row : goal.returns-then-wide-row
 returns-then-wide-row c =
-    the_number (wrong-length (counted (goal.at.returns-then-wide-row c).After-row_of-row) c.if-row-eq0.false (λ e. c.if-wide-row.true (c.wide.ensures ∙ e)))
+    let k = counted (goal.at.returns-then-wide-row c).After-row_of-row in
+    the_number (wrong-length k c.if-row-eq0.false (λ e. c.if-wide-row.true (c.wide.ensures ∙ e)))
 
 -- past 6: the length byte is the row's
 module _ (c : Else-wide-row) where
-
-  abbrev some-row : c.row_of-row.result ≡ 0 → ⊥
-  some-row = c.if-row-eq0.false
-
   right : get_or c.args.file.now c.args.at 0 ≡ c.row_of-row.result % 256
   right = sym c.wide.ensures ∙ c.if-wide-row.false
 
 pub high_in_file-requires : goal.high_in_file-requires
 high_in_file-requires c =
-    let k = counted (goal.at.high_in_file-requires c).After-row_of-row in
-    (known_at k c.if-row-eq0.false, (kinds-at k c.if-row-eq0.false, fields_fit k c.if-row-eq0.false (right c)))
+    let at = goal.at.high_in_file-requires c in
+    let k = counted at.After-row_of-row in
+    record {
+      file_value = known_at k c.if-row-eq0.false;
+      kinds_value = kinds-at k c.if-row-eq0.false;
+      file_in_bounds = fields_fit k c.if-row-eq0.false (right at.Else-wide-row);
+    }
 
 pub returns-then-high_in_file : goal.returns-then-high_in_file
 returns-then-high_in_file c =
-    the_number (high-at (counted (goal.at.returns-then-high_in_file c).After-row_of-row) c.if-row-eq0.false (right (goal.at.returns-then-high_in_file c).Else-wide-row) (sym c.if-high_in_file.true ∙ c.high_in_file.ensures))
+    let at = goal.at.returns-then-high_in_file c in
+    let w = right at.Else-wide-row in
+    the_number (high-at (counted at.After-row_of-row) c.if-row-eq0.false w (sym c.if-high_in_file.true ∙ c.high_in_file.ensures))
 
 pub returns : goal.returns
 returns c =
-    good-at (counted (goal.at.returns c).After-row_of-row) c.if-row-eq0.false (right (goal.at.returns c).Else-wide-row) (sym c.if-high_in_file.false ∙ c.high_in_file.ensures)
+    let at = goal.at.returns c in
+    let w = right at.Else-wide-row in
+    good-at (counted at.After-row_of-row) c.if-row-eq0.false w (sym c.if-high_in_file.false ∙ c.high_in_file.ensures)

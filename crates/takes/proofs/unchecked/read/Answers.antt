@@ -14,7 +14,10 @@ overflow_add-at c = omega (arith, good-fits c.args.file.now c.args.at c.requires
 
 pub record_at-requires : goal.record_at-requires
 record_at-requires c =
-    (good-known c.args.file.now c.args.at c.requires, good-fits c.args.file.now c.args.at c.requires)
+    record {
+      op_value = good-known c.args.file.now c.args.at c.requires;
+      op_in_bounds = good-fits c.args.file.now c.args.at c.requires;
+    }
 
 pub returns : goal.returns
 returns c = good-record c.args.file.now c.args.at c.requires c.record_at.result c.record_at.ensures

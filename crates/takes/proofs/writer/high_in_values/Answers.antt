@@ -1,3 +1,4 @@
+-- A law of `Rows` for a turn of the loop, for the stop at a high register and for the end.
 use Prim.Native.Nat.{◌+◌, ◌≤◌}
 use mathlib.Core.Path.{refl, sym, ◌∙◌}
 use native.Mathlib.Omega.{arith}
@@ -10,17 +11,17 @@ use Rattle.takes.proofs.writer.high_in_values.Goals.{In-loop-left}
 
 pub loop-left-init : goal.loop-left-init
 loop-left-init c =
-    let p = c.args.t1 in
+    let p = c.args.p in
     record {
       rest = kinds_of p.op;
-      coded = c.requires.1;
-      columns = omega (arith, (in_table p.op c.requires.0.0).few, c.requires.0.1);
+      coded = c.requires.kinds_value;
+      columns = omega (arith, (in_table p.op c.requires.op_value.0).few, c.requires.op_value.1);
       same = refl;
     }
 
 -- a column of the loop lies among the values
-column : (c : In-loop-left → c.before.loop.k + 1 ≤ most_fields
-column c = omega (arith, seeking-column c.before.loop.invariant c.loop-test.true, c.before.before.requires.0.1)
+column : (c : In-loop-left) → c.loop-left.k + 1 ≤ most_fields
+column c = omega (arith, seeking-column c.loop-left.invariant c.loop-left-test.true, c.requires.op_value.1)
 
 pub offset_bounds-p-k : goal.offset_bounds-p-k
 offset_bounds-p-k c = omega (arith, column c)

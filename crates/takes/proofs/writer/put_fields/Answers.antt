@@ -1,3 +1,4 @@
+-- A law of `Rows` for a turn of the loop and for its end: the column lies among the values, and its bytes in the slice.
 use Prim.Native.Nat.{◌+◌, ◌≤◌}
 use mathlib.Core.Path.{refl}
 use native.Mathlib.Omega.{arith}
@@ -11,20 +12,20 @@ use Rattle.takes.proofs.writer.put_fields.Goals.{After-size_of-size}
 
 pub loop-left-init : goal.loop-left-init
 loop-left-init c =
-    let p = c.args.t2 in
+    let p = c.args.p in
     record {
       rest = kinds_of p.op;
-      coded = c.requires.1.0;
-      columns = omega (arith, (in_table p.op c.requires.0.0).few, c.requires.0.1);
+      coded = c.requires.kinds_value;
+      columns = omega (arith, (in_table p.op c.requires.op_value.0).few, c.requires.op_value.1);
       same = refl;
-      room = c.requires.1.1;
+      room = c.requires.op_in_bounds;
       put = refl;
     }
 
 -- a field of the loop: its column, and its room in the slice
 module _ (c : After-size_of-size) where
   column : c.loop-left.k + 1 ≤ most_fields
-  column = omega (arith, putting-column c.loop-left.invariant c.loop-left-test.true, c.requires.0.1)
+  column = omega (arith, putting-column c.loop-left.invariant c.loop-left-test.true, c.requires.op_value.1)
 
   room : (c.size_of-size.result ≤ 4) × (c.loop-left.at + c.size_of-size.result ≤ length c.loop-left.out)
   room =
@@ -52,7 +53,7 @@ loop-left-smaller c = omega arith
 pub loop-left-preserved : goal.loop-left-preserved
 loop-left-preserved c =
     let w = c.write_number in
-    putting-turn c.loop-left.invariant c.loop-left-test.true c.size_of-size.result c.size_of-size.ensures w.new.0 w.ensures w.auto.0
+    putting-turn c.loop-left.invariant c.loop-left-test.true c.size_of-size.result c.size_of-size.ensures w.new.s w.ensures w.auto.s
 
 pub shape_of-out : goal.shape_of-out
 shape_of-out c = c.loop-left.invariant.same

@@ -38,11 +38,12 @@ module _ (c : After-row_of-row) where
   kinds-are = row-kinds op c.row_of-row.result c.row_of-row.ensures known-op
 
 pub high_in_values-requires : goal.high_in_values-requires
-high_in_values-requires c = ((known-op c, all-values c), kinds-are c)
+high_in_values-requires c = record { op_value = (known-op c, all-values c); kinds_value = kinds-are c }
 
 pub returns-then-high_in_values : goal.returns-then-high_in_values
 returns-then-high_in_values c =
-    write-high c.args.r c.args.out.now c.values_of-p.result.op c.values_of-p.result.values c.values_of-p.ensures (sym c.if-high_in_values.true ∙ c.high_in_values.ensures)
+    let p = c.values_of-p in
+    write-high c.args.r c.args.out.now p.result.op p.result.values p.ensures (sym c.if-high_in_values.true ∙ c.high_in_values.ensures)
 
 -- no register is high
 module _ (c : Else-high_in_values) where
@@ -51,19 +52,29 @@ module _ (c : Else-high_in_values) where
 
 pub returns-then-out-count : goal.returns-then-out-count
 returns-then-out-count c =
-    write-short c.args.r c.args.out.now c.values_of-p.result.op c.values_of-p.result.values c.values_of-p.ensures (low (goal.at.returns-then-out-count c).Else-high_in_values) (omega (arith, length-is (goal.at.returns-then-out-count c).After-row_of-row))
+    let at = goal.at.returns-then-out-count c in
+    let p = c.values_of-p in
+    write-short c.args.r c.args.out.now p.result.op p.result.values p.ensures (low at.Else-high_in_values)
+    (omega (arith, length-is at.After-row_of-row))
 
 pub bounds-out-1 : goal.bounds-out-1
 bounds-out-1 c = simp length-set (omega (arith, length-is (goal.at.bounds-out-1 c).After-row_of-row))
 
 pub put_fields-requires : goal.put_fields-requires
 put_fields-requires c =
-    ((known-op (goal.at.put_fields-requires c).After-row_of-row, all-values (goal.at.put_fields-requires c).After-row_of-row), (kinds-are (goal.at.put_fields-requires c).After-row_of-row, simp length-set (omega (arith, length-is (goal.at.put_fields-requires c).After-row_of-row))))
+    let p = (goal.at.put_fields-requires c).After-row_of-row in
+    record {
+      op_value = (known-op p, all-values p);
+      kinds_value = kinds-are p;
+      op_in_bounds = simp length-set (omega (arith, length-is p));
+    }
 
 pub shape_of-out : goal.shape_of-out
-shape_of-out c = c.put_fields.auto.0 ∙ simp length-set
+shape_of-out c = c.put_fields.auto.out ∙ simp length-set
 
 pub returns : goal.returns
 returns c =
-    write_done c.args.r c.args.out.now c.values_of-p.result.op c.values_of-p.result.values c.values_of-p.ensures (low (goal.at.returns c).Else-high_in_values) (c.row_of-row.result % 256) c.put_fields.new.0
-    (length-is (goal.at.returns c).After-row_of-row) (omega arith) c.put_fields.ensures
+    let at = goal.at.returns c in
+    let p = c.values_of-p in
+    write_done c.args.r c.args.out.now p.result.op p.result.values p.ensures (low at.Else-high_in_values)
+    (c.row_of-row.result % 256) c.put_fields.new.out (length-is at.After-row_of-row) (omega arith) c.put_fields.ensures
