@@ -185,7 +185,7 @@ pub extern "C" fn tulivombe_run(
     answers: &mut [u8],
     budget: u32,
 ) -> Ran
-    ensures answers_after { ran_to result arena.new table.new answers.new
+    ensures ran { ran_to result arena.new table.new answers.new
         ≡ run_of file.now budget (heap_of arena.old table.old) answers.old }
     ensures counted { result.number ≡ 0
         → Counted file.now budget answers.old (ran_to result arena.new table.new answers.new) }
@@ -201,12 +201,12 @@ pub extern "C" fn tulivombe_run_panel(
     answers: &mut [u8],
     budget: u32,
 ) -> Ran
-    ensures answers_after { ran_to result arena.new table.new answers.new
+    ensures ran { ran_to result arena.new table.new answers.new
         ≡ panel_of file.now budget (heap_of arena.old table.old) answers.old }
-    ensures answers_after_2 { result.number ≡ 0
+    ensures accepted_as_upload { result.number ≡ 0
         → ran_to result arena.new table.new answers.new
         ≡ run_of file.now budget (heap_of arena.old table.old) answers.old }
-    ensures answers_after_3 { length (records_of file.now) ≤ screenful
+    ensures listed_as_upload { length (records_of file.now) ≤ screenful
         → ran_to result arena.new table.new answers.new
         ≡ run_of file.now budget (heap_of arena.old table.old) answers.old }
     ensures counted { result.number ≡ 0

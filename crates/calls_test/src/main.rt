@@ -6,9 +6,9 @@
 ghost use Rattle.std.specs.Prelude.{◌+◌, ◌≤◌, ◌<◌, length};
 ghost use Rattle.calls_test.specs.Bounds.{Past, arena_most, table_most, Lendable};
 
-use common::wide;
 use heap::{Answer, SLOT_ORDER};
-use libc::{STDIN_FILENO, STDOUT_FILENO};
+use std::io;
+use std::io::{BufWriter, Read, Write};
 
 // The lengths of the largest arena and its table, and how much text is read.
 const ARENA: usize = 65536;
@@ -97,37 +97,33 @@ fn line_at(text: &[u8], at: usize) -> Line
     }
 }
 
-fn print(text: &[u8]) {
-    io::write_all(STDOUT_FILENO, text);
+fn print<W: Write>(out: &mut W, text: &[u8]) -> io::Result<()> {
+    out.write_all(text)
 }
 
-fn print_bytes(s: &[u8]) {
-    let mut i = 0usize;
-    while i < s.len() {
-        io::print_hex(STDOUT_FILENO, wide(s[i]) as u64, 2);
-        i += 1;
+fn print_bytes<W: Write>(out: &mut W, s: &[u8]) -> io::Result<()> {
+    for byte in s {
+        write!(out, "{byte:02x}")?;
     }
-    print(b"\n");
+    print(out, b"\n")
 }
 
-fn print_answer(answer: Answer) {
-    io::print_decimal(STDOUT_FILENO, answer.number as u64);
-    print(b" ");
-    io::print_decimal(STDOUT_FILENO, answer.value as u64);
-    print(b"\n");
+fn print_answer<W: Write>(out: &mut W, answer: Answer) -> io::Result<()> {
+    let number = answer.number;
+    let value = answer.value;
+    writeln!(out, "{number} {value}")
 }
 
 // The number is left's.
-fn print_shown(arena: &[u8], table: &[u8], p: u32) {
+fn print_shown<W: Write>(out: &mut W, arena: &[u8], table: &[u8], p: u32) -> io::Result<()> {
     let answer = heap::left(arena, table, p);
-    io::print_decimal(STDOUT_FILENO, answer.number as u64);
-    print(b" ");
+    let number = answer.number;
+    write!(out, "{number} ")?;
     let part = heap::show(arena, table, p);
     if part.len() == 0 {
-        print(b"-\n");
-        return;
+        return print(out, b"-\n");
     }
-    print_bytes(part);
+    print_bytes(out, part)
 }
 
 fn poke(table: &mut [u8], i: u32, v: u32) {
@@ -162,19 +158,23 @@ fn answer_of(arena: &mut [u8], table: &mut [u8], l: Line) -> Answer {
 }
 
 // Carries a line out on the lent parts of the buffers.
-fn carry_out(arena: &mut [u8], table: &mut [u8], l: Line) {
+fn carry_out<W: Write>(out: &mut W, arena: &mut [u8], table: &mut [u8], l: Line) -> io::Result<()> {
     let word = l.word;
     match word {
         // he, on, po, sh, ar, ta
         0x6865 => {
             heap::fresh(arena, table);
+            Ok(())
         }
-        0x6f6e => {}
-        0x706f => poke(table, l.a, l.b),
-        0x7368 => print_shown(arena, table, l.a),
-        0x6172 => print_bytes(arena),
-        0x7461 => print_bytes(table),
-        _ => print_answer(answer_of(arena, table, l)),
+        0x6f6e => Ok(()),
+        0x706f => {
+            poke(table, l.a, l.b);
+            Ok(())
+        }
+        0x7368 => print_shown(out, arena, table, l.a),
+        0x6172 => print_bytes(out, arena),
+        0x7461 => print_bytes(out, table),
+        _ => print_answer(out, answer_of(arena, table, l)),
     }
 }
 
@@ -209,7 +209,7 @@ fn lent_by(l: Line, before: Lent) -> Lent
     }
 }
 
-fn run(text: &[u8], arena: &mut [u8], table: &mut [u8])
+fn run<W: Write>(out: &mut W, text: &[u8], arena: &mut [u8], table: &mut [u8]) -> io::Result<()>
     requires { (arena_most ≤ length arena.old) × (table_most ≤ length table.old) }
 {
     let mut lent = Lent { arena: 0, table: 0 };
@@ -219,15 +219,18 @@ fn run(text: &[u8], arena: &mut [u8], table: &mut [u8])
         lent = lent_by(l, lent);
         let n = lent.arena;
         let k = lent.table;
-        carry_out(&mut arena[..n], &mut table[..k], l);
+        carry_out(out, &mut arena[..n], &mut table[..k], l)?;
         at = past(text, at, b'\n');
     }
+    Ok(())
 }
 
-fn main() {
-    let mut text = [0u8; TEXT];
-    let mut arena = io::large_buffer();
-    let mut table = io::buffer();
-    let n = io::read_full(STDIN_FILENO, &mut text);
-    run(&text[..n], &mut arena, &mut table);
+fn main(rt: HostRuntime) -> io::Result<()> {
+    let mut text = Vec::new(rt.alloc());
+    rt.reader().take(TEXT as u64).read_to_end(&mut text)?;
+    let mut arena = [0u8; ARENA];
+    let mut table = [0u8; TABLE];
+    let mut out = BufWriter::new(rt.alloc(), io::writer(&rt))?;
+    run(&mut out, text.as_slice(), &mut arena, &mut table)?;
+    out.flush()
 }

@@ -17,7 +17,7 @@ const CALL_LENGTH: usize = 14;
 // Makes the grid at p whose rows, columns, row and column are the bytes of the second number of the call at `at`.
 fn make_grid_at(arena: &[u8], table: &[u8], m: u32, s: &[u8], at: usize, p: u32) -> Answer
     requires sound { Sound slot_order m arena.now table.now }
-    requires call_length_in_bounds { at + call_length ≤ length s.now }
+    requires inside { at + call_length ≤ length s.now }
     ensures { outcome result arena.now table.now
         ≡ heap_step slot_order m (grid_from p (second_byte s.now at)) (heap_of arena.now table.now) }
 {
@@ -37,7 +37,7 @@ fn make_grid_at(arena: &[u8], table: &[u8], m: u32, s: &[u8], at: usize, p: u32)
 // Makes the call in the CALL_LENGTH bytes from `at` on. Each arm calls its own inner function: why not `unchecked::call`, is said there.
 fn make_call_at(arena: &mut [u8], table: &mut [u8], m: u32, s: &[u8], at: usize) -> Answer
     requires sound { Sound slot_order m arena.old table.old }
-    requires call_length_in_bounds { at + call_length ≤ length s.now }
+    requires inside { at + call_length ≤ length s.now }
     ensures { outcome result arena.new table.new
         ≡ heap_step slot_order m (call_at s.now at) (heap_of arena.old table.old) }
 {

@@ -1,28 +1,28 @@
 // A test: rewrites the take on standard input, and prints the number, the count and all bytes of the slice that it lent.
 #![tactic(auto)]
 
-use libc::{STDIN_FILENO, STDOUT_FILENO};
+use std::io;
+use std::io::{BufWriter, Read, Write};
 use takes::LONGEST;
 
 // One byte more than the longest file.
 const READ: usize = LONGEST + 1;
 
-fn print_pair(a: u32, b: u32) {
-    io::print_decimal(STDOUT_FILENO, a as u64);
-    io::write_all(STDOUT_FILENO, b" ");
-    io::print_decimal(STDOUT_FILENO, b as u64);
-    io::write_all(STDOUT_FILENO, b"\n");
+fn print_pair<W: Write>(out: &mut W, a: u32, b: u32) -> io::Result<()> {
+    writeln!(out, "{a} {b}")
 }
 
-fn rewrite(file: &[u8]) {
-    let mut out = [165u8; LONGEST];
-    let written = takes::rewrite(file, &mut out);
-    print_pair(written.number, written.count);
-    io::write_all(STDOUT_FILENO, &out);
+fn rewrite<W: Write>(out: &mut W, file: &[u8]) -> io::Result<()> {
+    let mut lent = [165u8; LONGEST];
+    let written = takes::rewrite(file, &mut lent);
+    print_pair(out, written.number, written.count)?;
+    out.write_all(&lent)
 }
 
-fn main() {
-    let mut file = [0u8; READ];
-    let n = io::read_full(STDIN_FILENO, &mut file);
-    rewrite(&file[..n]);
+fn main(rt: HostRuntime) -> io::Result<()> {
+    let mut file = Vec::new(rt.alloc());
+    rt.reader().take(READ as u64).read_to_end(&mut file)?;
+    let mut out = BufWriter::new(rt.alloc(), io::writer(&rt))?;
+    rewrite(&mut out, file.as_slice())?;
+    out.flush()
 }

@@ -61,7 +61,7 @@ fn get_at(file: &[u8], at: usize) -> Call
 }
 
 fn give_at(file: &[u8], at: usize, values: &[u32; COUNT]) -> Call
-    requires at_in_bounds { at + 1 ≤ length file.now }
+    requires inside { at + 1 ≤ length file.now }
     requires low_registers { LowRegisters (give_at file.now at) }
     ensures { Action.Makes result ≡ action_of values.now (give_at file.now at) }
 {
@@ -69,7 +69,7 @@ fn give_at(file: &[u8], at: usize, values: &[u32; COUNT]) -> Call
 }
 
 fn step_at(file: &[u8], at: usize, values: &[u32; COUNT]) -> Call
-    requires at_in_bounds { at + 6 ≤ length file.now }
+    requires inside { at + 6 ≤ length file.now }
     requires low_registers { LowRegisters (step_at file.now at) }
     ensures { Action.Makes result ≡ action_of values.now (step_at file.now at) }
 {
@@ -77,7 +77,7 @@ fn step_at(file: &[u8], at: usize, values: &[u32; COUNT]) -> Call
 }
 
 fn read_at(file: &[u8], at: usize, values: &[u32; COUNT]) -> Call
-    requires at_in_bounds { at + 3 ≤ length file.now }
+    requires inside { at + 3 ≤ length file.now }
     requires low_registers { LowRegisters (read_fields_at file.now at) }
     ensures { Action.Makes result ≡ action_of values.now (read_fields_at file.now at) }
 {
@@ -85,7 +85,7 @@ fn read_at(file: &[u8], at: usize, values: &[u32; COUNT]) -> Call
 }
 
 fn write_at(file: &[u8], at: usize, values: &[u32; COUNT]) -> Call
-    requires at_in_bounds { at + 6 ≤ length file.now }
+    requires inside { at + 6 ≤ length file.now }
     requires low_registers { LowRegisters (write_at file.now at) }
     ensures { Action.Makes result ≡ action_of values.now (write_at file.now at) }
 {
@@ -94,7 +94,7 @@ fn write_at(file: &[u8], at: usize, values: &[u32; COUNT]) -> Call
 }
 
 fn left_at(file: &[u8], at: usize, values: &[u32; COUNT]) -> Call
-    requires at_in_bounds { at + 2 ≤ length file.now }
+    requires inside { at + 2 ≤ length file.now }
     requires low_registers { LowRegisters (left_at file.now at) }
     ensures { Action.Makes result ≡ action_of values.now (left_at file.now at) }
 {
@@ -102,7 +102,7 @@ fn left_at(file: &[u8], at: usize, values: &[u32; COUNT]) -> Call
 }
 
 fn copy_at(file: &[u8], at: usize, values: &[u32; COUNT]) -> Call
-    requires at_in_bounds { at + 7 ≤ length file.now }
+    requires inside { at + 7 ≤ length file.now }
     requires low_registers { LowRegisters (copy_at file.now at) }
     ensures { Action.Makes result ≡ action_of values.now (copy_at file.now at) }
 {
@@ -112,7 +112,7 @@ fn copy_at(file: &[u8], at: usize, values: &[u32; COUNT]) -> Call
 }
 
 fn fill_at(file: &[u8], at: usize, values: &[u32; COUNT]) -> Call
-    requires at_in_bounds { at + 7 ≤ length file.now }
+    requires inside { at + 7 ≤ length file.now }
     requires low_registers { LowRegisters (fill_at file.now at) }
     ensures { Action.Makes result ≡ action_of values.now (fill_at file.now at) }
 {
@@ -121,7 +121,7 @@ fn fill_at(file: &[u8], at: usize, values: &[u32; COUNT]) -> Call
 }
 
 fn lock_at(file: &[u8], at: usize, values: &[u32; COUNT]) -> Call
-    requires at_in_bounds { at + 1 ≤ length file.now }
+    requires inside { at + 1 ≤ length file.now }
     requires low_registers { LowRegisters (lock_at file.now at) }
     ensures { Action.Makes result ≡ action_of values.now (lock_at file.now at) }
 {
@@ -129,7 +129,7 @@ fn lock_at(file: &[u8], at: usize, values: &[u32; COUNT]) -> Call
 }
 
 fn unlock_at(file: &[u8], at: usize, values: &[u32; COUNT]) -> Call
-    requires at_in_bounds { at + 1 ≤ length file.now }
+    requires inside { at + 1 ≤ length file.now }
     requires low_registers { LowRegisters (unlock_at file.now at) }
     ensures { Action.Makes result ≡ action_of values.now (unlock_at file.now at) }
 {
@@ -137,7 +137,7 @@ fn unlock_at(file: &[u8], at: usize, values: &[u32; COUNT]) -> Call
 }
 
 fn again_at(file: &[u8], at: usize, values: &[u32; COUNT]) -> Action
-    requires at_in_bounds { at + 3 ≤ length file.now }
+    requires inside { at + 3 ≤ length file.now }
     requires low_registers { LowRegisters (again_at file.now at) }
     ensures { result ≡ action_of values.now (again_at file.now at) }
 {
@@ -152,7 +152,7 @@ fn set_at(file: &[u8], at: usize) -> Action
 }
 
 fn grid_at(file: &[u8], at: usize, values: &[u32; COUNT]) -> Call
-    requires at_in_bounds { at + 6 ≤ length file.now }
+    requires inside { at + 6 ≤ length file.now }
     requires low_registers { LowRegisters (grid_at file.now at) }
     ensures { Action.Makes result ≡ action_of values.now (grid_at file.now at) }
 {
@@ -162,8 +162,8 @@ fn grid_at(file: &[u8], at: usize, values: &[u32; COUNT]) -> Call
 
 // The record of any operation, from the place where its fields start.
 fn issue_at(file: &[u8], at: usize, op: u8, values: &[u32; COUNT]) -> Issued
-    requires op_value { known op ≡ true }
-    requires op_in_bounds { at + sizes (kinds_of op) ≤ length file.now }
+    requires listed { known op ≡ true }
+    requires inside { at + sizes (kinds_of op) ≤ length file.now }
     requires low_registers { LowRegisters (record_from file.now at op) }
     ensures { result ≡ issued_with values.now (record_from file.now at op) }
 {

@@ -97,7 +97,7 @@ fn carry_out(
     most: u32,
 ) -> Ran
     requires runnable { Runnable m most file.now arena.old table.old answers.old }
-    requires file_len { length (records_of file.now) ≡ count }
+    requires counted { length (records_of file.now) ≡ count }
     ensures { ran_to result arena.new table.new answers.new ≡ ran_out file.now most answers.old }
 {
     heap::fresh(arena, table);
@@ -158,7 +158,7 @@ fn run_by(
 // Runs a take on a lent arena and table: an upload from a computer. It carries out at most as many records as the budget allows, for all of which the answer
 // slice must have room. The count is that of the definition's steps.
 pub fn run(file: &[u8], arena: &mut [u8], table: &mut [u8], answers: &mut [u8], budget: u32) -> Ran
-    ensures answers_after { ran_to result arena.new table.new answers.new
+    ensures ran { ran_to result arena.new table.new answers.new
         ≡ run_of file.now budget (heap_of arena.old table.old) answers.old }
     ensures counted { result.number ≡ 0
         → Counted file.now budget answers.old (ran_to result arena.new table.new answers.new) }
@@ -175,12 +175,12 @@ pub fn run_panel(
     answers: &mut [u8],
     budget: u32,
 ) -> Ran
-    ensures answers_after { ran_to result arena.new table.new answers.new
+    ensures ran { ran_to result arena.new table.new answers.new
         ≡ panel_of file.now budget (heap_of arena.old table.old) answers.old }
-    ensures answers_after_2 { result.number ≡ 0
+    ensures accepted_as_upload { result.number ≡ 0
         → ran_to result arena.new table.new answers.new
         ≡ run_of file.now budget (heap_of arena.old table.old) answers.old }
-    ensures answers_after_3 { length (records_of file.now) ≤ screenful
+    ensures listed_as_upload { length (records_of file.now) ≤ screenful
         → ran_to result arena.new table.new answers.new
         ≡ run_of file.now budget (heap_of arena.old table.old) answers.old }
     ensures counted { result.number ≡ 0

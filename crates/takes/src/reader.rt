@@ -11,9 +11,9 @@ use common::{index, wide};
 // Whether the record at a place of the file has a register past the last. In every row of the table the registers, one to three, are the first fields, and
 // each is one byte: so the search ends at the first field that is none. Of the kinds only a register's is 8 or more.
 fn high_in_file(file: &[u8], at: usize, kinds: u32) -> bool
-    requires file_value { known (operation_byte (drop at file.now)) ≡ true }
-    requires kinds_value { kinds ≡ digits (kinds_of (operation_byte (drop at file.now))) }
-    requires file_in_bounds { at + 2 + sizes (kinds_of (operation_byte (drop at file.now))) ≤ length file.now }
+    requires listed { known (operation_byte (drop at file.now)) ≡ true }
+    requires coded { kinds ≡ digits (kinds_of (operation_byte (drop at file.now))) }
+    requires inside { at + 2 + sizes (kinds_of (operation_byte (drop at file.now))) ≤ length file.now }
     ensures { result ≡ high_register (kinds_of (operation_byte (drop at file.now))) (field_values (drop at file.now)) }
 {
     if REGISTERS <= wide(file[at + 2]) {

@@ -129,8 +129,8 @@ fn grid_at(file: &[u8], at: usize) -> Record
 
 // The record of any operation, from the place where its fields start.
 fn record_at(file: &[u8], at: usize, op: u8) -> Record
-    requires op_value { known op ≡ true }
-    requires op_in_bounds { at + sizes (kinds_of op) ≤ length file.now }
+    requires listed { known op ≡ true }
+    requires inside { at + sizes (kinds_of op) ≤ length file.now }
     ensures { result ≡ record_from file.now at op }
 {
     match op {

@@ -60,8 +60,8 @@ fn values_of(r: Record) -> FieldValues
 
 // Whether a record to be written has a register past the last.
 fn high_in_values(p: FieldValues, kinds: u32) -> bool
-    requires op_value { (known p.op ≡ true) × (length p.values ≡ most_fields) }
-    requires kinds_value { kinds ≡ digits (kinds_of p.op) }
+    requires listed { (known p.op ≡ true) × (length p.values ≡ most_fields) }
+    requires coded { kinds ≡ digits (kinds_of p.op) }
     ensures { result ≡ high_register (kinds_of p.op) p.values }
 {
     let mut left = kinds;
@@ -79,9 +79,9 @@ fn high_in_values(p: FieldValues, kinds: u32) -> bool
 
 // Stores the fields of a record, behind its length byte and its operation.
 fn put_fields(out: &mut [u8], p: FieldValues, kinds: u32)
-    requires op_value { (known p.op ≡ true) × (length p.values ≡ most_fields) }
-    requires kinds_value { kinds ≡ digits (kinds_of p.op) }
-    requires op_in_bounds { 2 + sizes (kinds_of p.op) ≤ length out.old }
+    requires listed { (known p.op ≡ true) × (length p.values ≡ most_fields) }
+    requires coded { kinds ≡ digits (kinds_of p.op) }
+    requires inside { 2 + sizes (kinds_of p.op) ≤ length out.old }
     ensures { out.new ≡ over out.old 2 (value_bytes (kinds_of p.op) p.values) }
 {
     let mut left = kinds;

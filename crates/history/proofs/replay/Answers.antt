@@ -29,7 +29,7 @@ pub overflow_mul-i : goal.overflow_mul-i
 overflow_mul-i c = omega arith
 
 pub make_call_at-answer-requires : goal.make_call_at-answer-requires
-make_call_at-answer-requires c = record { sound = replays-sound c.loop-i.invariant; call_length_in_bounds = omega arith }
+make_call_at-answer-requires c = record { sound = replays-sound c.loop-i.invariant; inside = omega arith }
 
 -- the calls are fewer than the bytes of a slice can be
 pub store-requires : goal.store-requires

@@ -5,4 +5,4 @@ use Rattle.runner.proofs.run.Goals as goal
 pub returns : goal.returns
 returns c =
     let k = c.run_by in
-    (k.ensures, λ z. ran-counted _ _ _ _ _ _ k.ensures z)
+    record { ran = k.ensures; counted = λ z. ran-counted _ _ _ _ _ _ k.ensures z }

@@ -10,4 +10,9 @@ returns c =
     let k = c.run_by in
     let same = panel-as-upload _ _ _ _ in
     let number : k.result.number ≡ (panel_of _ _ _ _).number = ap (λ (o : RunOutcome). o.number) k.ensures in
-    (k.ensures, ((λ z. k.ensures ∙ same.accepted (sym number ∙ z)), ((λ l. k.ensures ∙ same.listed l), (λ z. ran-counted _ _ _ _ _ _ k.ensures z))))
+    record {
+      ran = k.ensures;
+      accepted_as_upload = λ z. k.ensures ∙ same.accepted (sym number ∙ z);
+      listed_as_upload = λ l. k.ensures ∙ same.listed l;
+      counted = λ z. ran-counted _ _ _ _ _ _ k.ensures z;
+    }

@@ -14,10 +14,11 @@ pub overflow_add-at : goal.overflow_add-at
 overflow_add-at c = omega (arith, good-fits c.args.file.now c.args.at c.requires)
 
 pub issue_at-requires : goal.issue_at-requires
-issue_at-requires c = (
-  good-known c.args.file.now c.args.at c.requires,
-  (good-fits c.args.file.now c.args.at c.requires, good-low c.args.file.now c.args.at c.requires),
-)
+issue_at-requires c = record {
+  listed = good-known c.args.file.now c.args.at c.requires;
+  inside = good-fits c.args.file.now c.args.at c.requires;
+  low_registers = good-low c.args.file.now c.args.at c.requires;
+}
 
 pub returns : goal.returns
 returns c = c.issue_at.ensures

@@ -10,7 +10,7 @@ use Rattle.takes.proofs.reader.high_in_file.Goals as goal
 use Rattle.takes.proofs.reader.high_in_file.Goals.{Else-wide-ge-REGISTERS, Else-wide-ge-REGISTERS-2, Start}
 
 tested : (c : Start) → Tested c.args.file.now c.args.at c.args.kinds
-tested c = record { listed = c.requires.file_value; coded = c.requires.kinds_value; fit = c.requires.file_in_bounds }
+tested c = record { listed = c.requires.listed; coded = c.requires.coded; fit = c.requires.inside }
 
 pub overflow_add-at : goal.overflow_add-at
 overflow_add-at c = omega (arith, first-inside (tested (goal.at.overflow_add-at c).Start))

@@ -48,9 +48,9 @@ high_in_file-requires c =
     let at = goal.at.high_in_file-requires c in
     let k = counted at.After-row_of-row in
     record {
-      file_value = known_at k c.if-row-eq0.false;
-      kinds_value = kinds-at k c.if-row-eq0.false;
-      file_in_bounds = fields_fit k c.if-row-eq0.false (right at.Else-wide-row);
+      listed = known_at k c.if-row-eq0.false;
+      coded = kinds-at k c.if-row-eq0.false;
+      inside = fields_fit k c.if-row-eq0.false (right at.Else-wide-row);
     }
 
 pub returns-then-high_in_file : goal.returns-then-high_in_file

@@ -15,8 +15,8 @@ overflow_add-at c = omega (arith, good-fits c.args.file.now c.args.at c.requires
 pub record_at-requires : goal.record_at-requires
 record_at-requires c =
     record {
-      op_value = good-known c.args.file.now c.args.at c.requires;
-      op_in_bounds = good-fits c.args.file.now c.args.at c.requires;
+      listed = good-known c.args.file.now c.args.at c.requires;
+      inside = good-fits c.args.file.now c.args.at c.requires;
     }
 
 pub returns : goal.returns

@@ -10,55 +10,55 @@ use Rattle.takes.proofs.unchecked.record_at.Goals as goal
 
 pub get_at-requires : goal.get_at-requires
 unfolding kinds_of
-get_at-requires c = rw c.in-1.is at c.requires.op_in_bounds
+get_at-requires c = rw c.in-1.is at c.requires.inside
 
 pub give_at-requires : goal.give_at-requires
 unfolding kinds_of
-give_at-requires c = rw c.in-2.is at c.requires.op_in_bounds
+give_at-requires c = rw c.in-2.is at c.requires.inside
 
 pub step_at-requires : goal.step_at-requires
 unfolding kinds_of
-step_at-requires c = rw c.in-3.is at c.requires.op_in_bounds
+step_at-requires c = rw c.in-3.is at c.requires.inside
 
 pub read_at-requires : goal.read_at-requires
 unfolding kinds_of
-read_at-requires c = rw c.in-4.is at c.requires.op_in_bounds
+read_at-requires c = rw c.in-4.is at c.requires.inside
 
 pub write_at-requires : goal.write_at-requires
 unfolding kinds_of
-write_at-requires c = rw c.in-5.is at c.requires.op_in_bounds
+write_at-requires c = rw c.in-5.is at c.requires.inside
 
 pub left_at-requires : goal.left_at-requires
 unfolding kinds_of
-left_at-requires c = rw c.in-6.is at c.requires.op_in_bounds
+left_at-requires c = rw c.in-6.is at c.requires.inside
 
 pub copy_at-requires : goal.copy_at-requires
 unfolding kinds_of
-copy_at-requires c = rw c.in-7.is at c.requires.op_in_bounds
+copy_at-requires c = rw c.in-7.is at c.requires.inside
 
 pub fill_at-requires : goal.fill_at-requires
 unfolding kinds_of
-fill_at-requires c = rw c.in-8.is at c.requires.op_in_bounds
+fill_at-requires c = rw c.in-8.is at c.requires.inside
 
 pub lock_at-requires : goal.lock_at-requires
 unfolding kinds_of
-lock_at-requires c = rw c.in-9.is at c.requires.op_in_bounds
+lock_at-requires c = rw c.in-9.is at c.requires.inside
 
 pub unlock_at-requires : goal.unlock_at-requires
 unfolding kinds_of
-unlock_at-requires c = rw c.in-10.is at c.requires.op_in_bounds
+unlock_at-requires c = rw c.in-10.is at c.requires.inside
 
 pub again_at-requires : goal.again_at-requires
 unfolding kinds_of
-again_at-requires c = rw c.in-11.is at c.requires.op_in_bounds
+again_at-requires c = rw c.in-11.is at c.requires.inside
 
 pub set_at-requires : goal.set_at-requires
 unfolding kinds_of
-set_at-requires c = rw c.in-12.is at c.requires.op_in_bounds
+set_at-requires c = rw c.in-12.is at c.requires.inside
 
 pub grid_at-requires : goal.grid_at-requires
 unfolding kinds_of
-grid_at-requires c = rw (last_arm c.args.op c.requires.op_value (search rules)) at c.requires.op_in_bounds
+grid_at-requires c = rw (last_arm c.args.op c.requires.listed (search rules)) at c.requires.inside
 
 pub returns-in-1 : goal.returns-in-1
 returns-in-1 c = rw c.in-1.is (c.get_at.ensures ∙ get-is c.args.file.now c.args.at)
@@ -98,4 +98,4 @@ returns-in-12 c = rw c.in-12.is (c.set_at.ensures ∙ set_is c.args.file.now c.a
 
 pub returns-in_default : goal.returns-in_default
 returns-in_default c =
-    rw (last_arm c.args.op c.requires.op_value (search rules)) (c.grid_at.ensures ∙ grid-is c.args.file.now c.args.at)
+    rw (last_arm c.args.op c.requires.listed (search rules)) (c.grid_at.ensures ∙ grid-is c.args.file.now c.args.at)

@@ -14,14 +14,14 @@ loop-left-init c =
     let p = c.args.p in
     record {
       rest = kinds_of p.op;
-      coded = c.requires.kinds_value;
-      columns = omega (arith, (in_table p.op c.requires.op_value.0).few, c.requires.op_value.1);
+      coded = c.requires.coded;
+      columns = omega (arith, (in_table p.op c.requires.listed.0).few, c.requires.listed.1);
       same = refl;
     }
 
 -- a column of the loop lies among the values
 column : (c : In-loop-left) → c.loop-left.k + 1 ≤ most_fields
-column c = omega (arith, seeking-column c.loop-left.invariant c.loop-left-test.true, c.requires.op_value.1)
+column c = omega (arith, seeking-column c.loop-left.invariant c.loop-left-test.true, c.requires.listed.1)
 
 pub offset_bounds-p-k : goal.offset_bounds-p-k
 offset_bounds-p-k c = omega (arith, column c)

@@ -15,17 +15,17 @@ loop-left-init c =
     let p = c.args.p in
     record {
       rest = kinds_of p.op;
-      coded = c.requires.kinds_value;
-      columns = omega (arith, (in_table p.op c.requires.op_value.0).few, c.requires.op_value.1);
+      coded = c.requires.coded;
+      columns = omega (arith, (in_table p.op c.requires.listed.0).few, c.requires.listed.1);
       same = refl;
-      room = c.requires.op_in_bounds;
+      room = c.requires.inside;
       put = refl;
     }
 
 -- a field of the loop: its column, and its room in the slice
 module _ (c : After-size_of-size) where
   column : c.loop-left.k + 1 ≤ most_fields
-  column = omega (arith, putting-column c.loop-left.invariant c.loop-left-test.true, c.requires.op_value.1)
+  column = omega (arith, putting-column c.loop-left.invariant c.loop-left-test.true, c.requires.listed.1)
 
   room : (c.size_of-size.result ≤ 4) × (c.loop-left.at + c.size_of-size.result ≤ length c.loop-left.out)
   room =

@@ -38,7 +38,7 @@ module _ (c : After-row_of-row) where
   kinds-are = row-kinds op c.row_of-row.result c.row_of-row.ensures known-op
 
 pub high_in_values-requires : goal.high_in_values-requires
-high_in_values-requires c = record { op_value = (known-op c, all-values c); kinds_value = kinds-are c }
+high_in_values-requires c = record { listed = (known-op c, all-values c); coded = kinds-are c }
 
 pub returns-then-high_in_values : goal.returns-then-high_in_values
 returns-then-high_in_values c =
@@ -64,9 +64,9 @@ pub put_fields-requires : goal.put_fields-requires
 put_fields-requires c =
     let p = (goal.at.put_fields-requires c).After-row_of-row in
     record {
-      op_value = (known-op p, all-values p);
-      kinds_value = kinds-are p;
-      op_in_bounds = simp length-set (omega (arith, length-is p));
+      listed = (known-op p, all-values p);
+      coded = kinds-are p;
+      inside = simp length-set (omega (arith, length-is p));
     }
 
 pub shape_of-out : goal.shape_of-out

@@ -1,0 +1,47 @@
+-- The parts of the buffers that are lent have the lengths of the file's arena and table, so they fit every accepted file (`sized`). An accepted run had room
+-- for its answers (`ran-room`), which are then printed.
+use Rattle.std.proofs.Common.{◌≡◌, ℕ, ◌*◌, ◌/◌, ◌^◌, ◌≤◌, ◌∙◌, List, false, length, arith, ap, sym, length-take-le}
+use Rattle.blocks.specs.Orders.{order_of}
+use Rattle.blocks.proofs.Floors.{pow-quotient}
+use Rattle.blocks.proofs.Orders.{order-power}
+use Rattle.heap.specs.Views.{slot_order}
+use Rattle.heap.specs.Heaps.{heap_of, wrong_sizes}
+use Rattle.heap.specs.Answers.{answer_length}
+use Rattle.heap.proofs.Judging.{sizes-right}
+use Rattle.takes.specs.Files.{size_byte, file_number}
+use Rattle.runner.proofs.Files.{accepted-file}
+use Rattle.runner.proofs.RunRefusals.{ran-room}
+use Rattle.printing.proofs.play.Goals as goal
+
+-- the lengths of an accepted file's arena and table
+sized : (file a tab : List ℕ) → file_number file ≡ 0 → length a ≡ 2 ^ size_byte file → length tab ≡ length a / 2 ^ slot_order
+    → wrong_sizes slot_order (size_byte file) (heap_of a tab) ≡ false
+sized file a tab z p q =
+    let m = size_byte file in
+    let h = (accepted-file file z).head in
+    sizes-right slot_order a tab
+    (record {
+      same = sym (ap order_of p ∙ order-power m h.low h.high);
+      low = h.low;
+      high = h.high;
+      size = p;
+      slots = q ∙ ap (λ (n : ℕ). n / 2 ^ slot_order) p ∙ pow-quotient slot_order m (omega (arith, h.low));
+    })
+
+pub run_in-ran-requires : goal.run_in-ran-requires
+run_in-ran-requires g c =
+    let size = c.size_for-size.result in
+    let h = c.size_for-size.ensures.at_most in
+    record {
+      sizes =
+          λ e.
+          let a = length-take-le size _ (omega (arith, h)) in
+          let t = length-take-le (size / 2 ^ slot_order) _ (omega (arith, h)) in
+          sized c.args.file.now _ _ e (a ∙ c.size_for-size.ensures.value e) (t ∙ ap (λ (n : ℕ). n / 2 ^ slot_order) (sym a));
+      answers = omega arith;
+    }
+
+pub print_answers-requires : goal.print_answers-requires
+print_answers-requires g c =
+    let r = c.run_in-ran in
+    omega (arith, ran-room _ _ _ _ r.result _ _ _ r.ensures.ran c.if-number-ne0.false, r.auto.answers)
