@@ -1,5 +1,5 @@
 //! Compiles the plain C code. With the feature `library` also proves and builds the static library, and links a copy of
-//! it, so that nothing here needs the repository's `target/` to stay.
+//! it, so that nothing here needs what `rt` leaves in the crates' folders to stay.
 
 use std::path::{Path, PathBuf};
 use std::process::Command;
@@ -45,12 +45,21 @@ fn plain_c(out: &Path) {
 fn library(out: &Path) {
     let tests = tests();
     let root = tests.parent().expect("tests/ stands in the repository");
-    for path in ["crates", "crates.txt"] {
-        println!("cargo:rerun-if-changed={}", root.join(path).display());
-    }
-    run(Command::new("rt").args(["staticlib", "cabi"]).current_dir(root), "the Rattle toolchain");
+    println!("cargo:rerun-if-changed={}", root.join("crates.txt").display());
+    sources(&root.join("crates")).iter().for_each(|path| println!("cargo:rerun-if-changed={}", path.display()));
+    let cabi = root.join("crates/cabi");
+    run(Command::new("rt").arg("lib").current_dir(&cabi), "the Rattle toolchain");
     let library = out.join("libcabi.a");
-    std::fs::copy(root.join("target/staticlib/libcabi.a"), &library).expect("`rt staticlib` wrote the library");
+    std::fs::copy(cabi.join("out/libcabi.a"), &library).expect("`rt lib` wrote the library");
     println!("cargo:rustc-link-lib=static=cabi");
     println!("cargo:rustc-env=TULIVOMBE_LIBRARY={}", library.display());
+}
+
+/// The folders of definitions, code and proofs of all crates. What `rt` itself writes, in the folder `out` beside them, is
+/// no change.
+fn sources(crates: &Path) -> Vec<PathBuf> {
+    let entries = std::fs::read_dir(crates).unwrap_or_else(|e| panic!("{}: {e}", crates.display()));
+    let folders = entries.map(|entry| entry.expect("the folder can be listed").path());
+    let parts = folders.flat_map(|folder| ["specs", "src", "proofs"].map(|part| folder.join(part)));
+    parts.filter(|path| path.is_dir()).collect()
 }

@@ -188,7 +188,7 @@ mod proved {
         prints(&run(&[&kept("empty.take", b"")]), "refused 1\n", "an empty file");
         for (take, printed) in stored().iter().flat_map(|text| text.takes()) {
             let input = File::open(&take).unwrap_or_else(|e| panic!("{}: {e}", take.display()));
-            let mut program = Command::new(root().join("target/bin/takerun"));
+            let mut program = Command::new(root().join("crates/takerun/out/takerun"));
             let output = program.stdin(input).output().unwrap_or_else(|e| panic!("{program:?}: {e}"));
             prints(&output, &printed, &take.display().to_string());
         }

@@ -1,5 +1,6 @@
 -- The free slots of a part as bits: a half of the number is that of a half of the part, 0 is none free, and all ones is all free.
-use Rattle.std.proofs.Common.{◌≡◌, ℕ, zero, suc, ◌+◌, ◌-◌, ◌*◌, ◌/◌, ◌%◌, ◌^◌, ◌<◌, ◌≤◌, Bool, true, false, cond, ◌&&◌, refl, ap, ◌∙◌, ap₂, add-zero, add-suc, suc-add, zero-add, arith, pow_pos}
+use Rattle.std.proofs.Common.{◌≡◌, ℕ, zero, suc, ◌+◌, ◌-◌, ◌*◌, ◌/◌, ◌%◌, ◌^◌, ◌<◌, ◌≤◌, Bool, true, false, cond, ◌&&◌, refl, ap, ◌∙◌, ap₂, add-zero, add-suc}
+use Rattle.std.proofs.Common.{suc-add, zero-add, arith, pow_pos}
 use mathlib.Core.Bool.{false≢true}
 use native.Mathlib.Nat.{two-pow-succ}
 use lib.Pow.{high, low}

@@ -1,5 +1,6 @@
 -- The check by xor and shift is membership in the aligned block, and with the sum that wraps it passes for the exact sum alone.
-use Rattle.std.proofs.Common.{◌≡◌, ℕ, suc, ◌+◌, ◌-◌, ◌/◌, ◌%◌, ◌^◌, ◌<◌, ◌≤◌, true, leb, sym, ap, ◌∙◌, arith, ltb-true, le-ltb, lt-ltb, eq-eqb, eqb-true, le-leb, leb-true}
+use Rattle.std.proofs.Common.{◌≡◌, ℕ, suc, ◌+◌, ◌-◌, ◌/◌, ◌%◌, ◌^◌, ◌<◌, ◌≤◌, true, leb, sym, ap, ◌∙◌, arith, ltb-true, le-ltb, lt-ltb, eq-eqb, eqb-true}
+use Rattle.std.proofs.Common.{le-leb, leb-true}
 use mathlib.Core.Bool.{and-false}
 use native.Mathlib.Decide.{dec_lt}
 use lib.Bits.{bit_xor, xor_shr, xor_self, xor_add_and, and_le_l, and_le_r}

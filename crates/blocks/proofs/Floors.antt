@@ -1,5 +1,6 @@
 -- Laws of rounding down to a multiple of 2 ^ e, by the law of quotient and remainder.
-use Rattle.std.proofs.Common.{◌≡◌, ℕ, ◌+◌, ◌-◌, ◌*◌, ◌/◌, ◌^◌, ◌<◌, ◌≤◌, sym, refl, ap, ◌∙◌, le_trans, le_of_eq, mul-le-mul_right, suc-mul, add-mul, add-sub_of_le, div-mul-le_self, arith, pow_pos, pow-add, shr_lt}
+use Rattle.std.proofs.Common.{◌≡◌, ℕ, ◌+◌, ◌-◌, ◌*◌, ◌/◌, ◌^◌, ◌<◌, ◌≤◌, sym, refl, ap, ◌∙◌, le_trans, le_of_eq, mul-le-mul_right, suc-mul, add-mul}
+use Rattle.std.proofs.Common.{add-sub_of_le, div-mul-le_self, arith, pow_pos, pow-add, shr_lt}
 use native.Mathlib.Nat.{lt-div-mul-add, mul-add-div_right}
 use lib.Pow.{shl-shr, high}
 use Rattle.blocks.specs.Blocks.{base, floor}

@@ -1,5 +1,6 @@
 -- Runs of free slots: what `all_free` says of a run, of each of its slots and of its parts, by induction on its length.
-use Rattle.std.proofs.Common.{◌≡◌, ℕ, zero, suc, ◌+◌, ◌-◌, ◌<◌, ◌≤◌, Bool, true, false, ◌&&◌, List, length, get_or, take, drop, sym, refl, ap, ◌∙◌, subst, ap₂, add-zero, add-suc, suc-add, zero-add, arith, length-drop, length-take, get_or-drop, get_or-take}
+use Rattle.std.proofs.Common.{◌≡◌, ℕ, zero, suc, ◌+◌, ◌-◌, ◌<◌, ◌≤◌, Bool, true, false, ◌&&◌, List, length, get_or, take, drop, sym, refl, ap, ◌∙◌, subst, ap₂}
+use Rattle.std.proofs.Common.{add-zero, add-suc, suc-add, zero-add, arith, length-drop, length-take, get_or-drop, get_or-take}
 use mathlib.Core.Bool.{and_assoc}
 use native.Mathlib.Nat.{sub-zero}
 use Rattle.blocks.specs.Placing.{all_free}

@@ -1,6 +1,8 @@
 -- The place in an arena, by halves. `place-whole`: where the arena is free, it is the place for every order. `place-halves`: where it is not,
 -- the place is the smaller of the places in its two halves.
-use Rattle.std.proofs.Common.{◌≡◌, ℕ, zero, suc, ◌+◌, ◌-◌, ◌*◌, ◌/◌, ◌^◌, ◌<◌, ◌≤◌, Bool, true, false, cond, not, ◌&&◌, ◌||◌, eqb, ltb, sym, refl, ap, ◌∙◌, ap₂, ⊎_elim, add-zero, add-suc, mul-le-mul_right, add-mul, suc-add, eq-or-lt_of_le, zero-add, zero-mul, arith, pow-add, le-ltb, lt-ltb, eq-eqb, ne_eqb}
+use Rattle.std.proofs.Common.{◌≡◌, ℕ, zero, suc, ◌+◌, ◌-◌, ◌*◌, ◌/◌, ◌^◌, ◌<◌, ◌≤◌, Bool, true, false, cond, not, ◌&&◌, ◌||◌, eqb, ltb, sym, refl, ap, ◌∙◌, ap₂}
+use Rattle.std.proofs.Common.{⊎_elim, add-zero, add-suc, mul-le-mul_right, add-mul, suc-add, eq-or-lt_of_le, zero-add, zero-mul, arith, pow-add, le-ltb, lt-ltb}
+use Rattle.std.proofs.Common.{eq-eqb, ne_eqb}
 use mathlib.Core.Bool.{and-false}
 use native.Mathlib.Nat.{two-pow-succ}
 use Rattle.blocks.specs.declared.Place.{Place}
@@ -93,7 +95,8 @@ is-order f t from m k = lowest-order _ _ k 0 _
 from-order : (f : ℕ → Bool) (t from m k n : ℕ) → OrderFrom k (from_order f t from m k n)
 unfolding from_order
 from-order f t from m k zero = tt
-from-order f t from m k (suc n) = else-order k (at_order f t from m k) (from_order f t from m (suc k) n) (is-order f t from m k) (from-order f t from m (suc k) n)
+from-order f t from m k (suc n) = else-order k (at_order f t from m k) (from_order f t from m (suc k) n) (is-order f t from m k)
+    (from-order f t from m (suc k) n)
 
 -- ---- sizes
 pub doubled : (i j : ℕ) → j ≡ suc i → 2 ^ j ≡ 2 ^ i + 2 ^ i

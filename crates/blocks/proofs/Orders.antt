@@ -1,6 +1,7 @@
 -- The order of an arena's length, and the order that a get needs: one law for each step of the two loops, and what they find, by induction on the orders
 -- that are left.
-use Rattle.std.proofs.Common.{◌≡◌, ℕ, zero, suc, ◌+◌, ◌-◌, ◌^◌, ◌<◌, ◌≤◌, Bool, true, false, cond, eqb, leb, ◌⊎◌, sym, refl, ap, subst, inl, inr, ⊎_elim, add-zero, add-suc, suc-add, eq-or-lt_of_le, add-one, arith, eq-eqb, ne_eqb, eqb-true, le-leb, leb-false, leb-true}
+use Rattle.std.proofs.Common.{◌≡◌, ℕ, zero, suc, ◌+◌, ◌-◌, ◌^◌, ◌<◌, ◌≤◌, Bool, true, false, cond, eqb, leb, ◌⊎◌, sym, refl, ap, subst, inl, inr, ⊎_elim}
+use Rattle.std.proofs.Common.{add-zero, add-suc, suc-add, eq-or-lt_of_le, add-one, arith, eq-eqb, ne_eqb, eqb-true, le-leb, leb-false, leb-true}
 use lib.Pow.{pow-lt}
 use borrow.Author.Tests.{lt-leb}
 use Rattle.blocks.specs.Orders.{order_from, order_of, needed_from, needed_order}

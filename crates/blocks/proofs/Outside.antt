@@ -1,6 +1,8 @@
 -- What lies outside the arena: an address below 0 may be told by 0, as the code holds it; where there is a referent the address lies inside; and inside, by
 -- the table, there is none exactly where the slot is free.
-use Rattle.std.proofs.Common.{◌≡◌, ℕ, zero, suc, ◌+◌, ◌-◌, ◌*◌, ◌^◌, ◌<◌, ◌≤◌, Bool, true, false, ◌&&◌, eqb, ltb, leb, List, length, get_or, ℤ, pos, negsuc, sym, refl, ap, ◌∙◌, div-lt_iff_lt-mul, le-div_iff_mul-le, arith, pow_pos, ltb-true, le-ltb, lt-ltb, ne_eqb, le-leb, leb-false, leb-true}
+use Rattle.std.proofs.Common.{◌≡◌, ℕ, zero, suc, ◌+◌, ◌-◌, ◌*◌, ◌^◌, ◌<◌, ◌≤◌, Bool, true, false, ◌&&◌, eqb, ltb, leb, List, length, get_or, ℤ, pos, negsuc}
+use Rattle.std.proofs.Common.{sym, refl, ap, ◌∙◌, div-lt_iff_lt-mul, le-div_iff_mul-le, arith, pow_pos, ltb-true, le-ltb, lt-ltb, ne_eqb, le-leb, leb-false}
+use Rattle.std.proofs.Common.{leb-true}
 use borrow.Author.Tests.{lt-leb, not-false}
 use Rattle.blocks.specs.Blocks.{base, Block, holds, missing, Aligned}
 use Rattle.blocks.specs.Tables.{damaged_by, free_in, block_round, referent_in}

@@ -1,6 +1,7 @@
 -- What a caller of the search needs. `place-sound`: the place is a free range of at least the order that is sought. `place-complete`: where
 -- there is none, no such range is free.
-use Rattle.std.proofs.Common.{◌≡◌, ℕ, zero, suc, ◌+◌, ◌-◌, ◌*◌, ◌/◌, ◌^◌, ◌<◌, ◌≤◌, Bool, true, false, cond, not, ◌&&◌, eqb, sym, refl, ap, ◌∙◌, subst, ⊎_elim, true≢false, mul-le-mul_right, suc-mul, eq-or-lt_of_le, arith, eq-eqb}
+use Rattle.std.proofs.Common.{◌≡◌, ℕ, zero, suc, ◌+◌, ◌-◌, ◌*◌, ◌/◌, ◌^◌, ◌<◌, ◌≤◌, Bool, true, false, cond, not, ◌&&◌, eqb, sym, refl, ap, ◌∙◌, subst, ⊎_elim}
+use Rattle.std.proofs.Common.{true≢false, mul-le-mul_right, suc-mul, eq-or-lt_of_le, arith, eq-eqb}
 use Rattle.blocks.specs.declared.Place.{Place}
 use Rattle.blocks.specs.declared.Place.TheVariants.{At, Nothing}
 use Rattle.blocks.specs.Placing.{range_start, free_range, maximal, lowest, at_order, or_else, from_order, place_in}
@@ -93,7 +94,8 @@ module _ (f : ℕ → Bool) (t from m : ℕ) where
   from-none k (suc n) h j lo hi = go (at_order f t from m k) refl h (from-none (suc k) n)
     where
       go : (x : Place) → at_order f t from m k ≡ x → or_else x (from_order f t from m (suc k) n) ≡ Nothing
-          → (from_order f t from m (suc k) n ≡ Nothing → (j : ℕ) → suc k ≤ j → j < suc k + n → at_order f t from m j ≡ Nothing) → at_order f t from m j ≡ Nothing
+          → (from_order f t from m (suc k) n ≡ Nothing → (j : ℕ) → suc k ≤ j → j < suc k + n → at_order f t from m j ≡ Nothing)
+          → at_order f t from m j ≡ Nothing
       go Nothing a b ih = ⊎_elim (λ x. subst (λ (y : ℕ). at_order f t from m y ≡ Nothing) x a) (λ x. ih b j x (omega arith)) (eq-or-lt_of_le lo)
       go (At u i) a b ih = let z : ◌≡◌ {A = ℕ} 0 1 = cc in absurd (omega arith)
 

@@ -1,5 +1,6 @@
 -- The referent by an undamaged table: an aligned block round the address, all of whose slots say its order, and the referent of each of its addresses.
-use Rattle.std.proofs.Common.{◌≡◌, ℕ, zero, suc, ◌+◌, ◌-◌, ◌*◌, ◌%◌, ◌^◌, ◌<◌, ◌≤◌, Bool, true, false, cond, ◌&&◌, ltb, leb, List, length, get_or, ℤ, pos, negsuc, sym, refl, ap, ◌∙◌, subst, arith, ltb-true, le-ltb, lt-ltb, le-leb, leb-true}
+use Rattle.std.proofs.Common.{◌≡◌, ℕ, zero, suc, ◌+◌, ◌-◌, ◌*◌, ◌%◌, ◌^◌, ◌<◌, ◌≤◌, Bool, true, false, cond, ◌&&◌, ltb, leb, List, length, get_or, ℤ, pos}
+use Rattle.std.proofs.Common.{negsuc, sym, refl, ap, ◌∙◌, subst, arith, ltb-true, le-ltb, lt-ltb, le-leb, leb-true}
 use borrow.Author.Tests.{lt-leb}
 use lib.IntN.{sub_ℕ}
 use Rattle.blocks.specs.Blocks.{base, floor, Aligned}

@@ -1,5 +1,6 @@
 -- Rows of slots: what a row of a block says of the block, a row as a table of its own, and parts of whole rows.
-use Rattle.std.proofs.Common.{◌≡◌, ℕ, zero, suc, ◌+◌, ◌-◌, ◌*◌, ◌/◌, ◌%◌, ◌^◌, ◌<◌, ◌≤◌, Bool, true, false, ◌&&◌, ◌||◌, eqb, leb, List, length, get_or, sym, refl, ap, ◌∙◌, true≢false, add-zero, mul_assoc, add-sub_of_le, arith, eq-eqb, eqb-true, leb-true}
+use Rattle.std.proofs.Common.{◌≡◌, ℕ, zero, suc, ◌+◌, ◌-◌, ◌*◌, ◌/◌, ◌%◌, ◌^◌, ◌<◌, ◌≤◌, Bool, true, false, ◌&&◌, ◌||◌, eqb, leb, List, length, get_or, sym}
+use Rattle.std.proofs.Common.{refl, ap, ◌∙◌, true≢false, add-zero, mul_assoc, add-sub_of_le, arith, eq-eqb, eqb-true, leb-true}
 use native.Mathlib.Nat.{add-sub_cancel_left}
 use native.Mathlib.Decide.{dec_lt}
 use borrow.Author.Tests.{eqb-false}

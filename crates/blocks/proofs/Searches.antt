@@ -1,6 +1,8 @@
 -- What the search answers for a part of the arena, one law for each of its returns. Slots are free by an arbitrary test f; the parts at the end are
 -- those of a table.
-use Rattle.std.proofs.Common.{◌≡◌, ℕ, ◌+◌, ◌-◌, ◌*◌, ◌/◌, ◌^◌, ◌<◌, ◌≤◌, Bool, true, false, cond, not, ◌&&◌, eqb, leb, List, length, get_or, sym, refl, ap, ◌∙◌, subst, add-zero, add_assoc, mul-le-mul_right, mul_assoc, suc-mul, add-mul, zero-add, zero-mul, arith, pow_pos, ne_eqb, eqb-true, le-leb}
+use Rattle.std.proofs.Common.{◌≡◌, ℕ, ◌+◌, ◌-◌, ◌*◌, ◌/◌, ◌^◌, ◌<◌, ◌≤◌, Bool, true, false, cond, not, ◌&&◌, eqb, leb, List, length, get_or, sym, refl, ap, ◌∙◌}
+use Rattle.std.proofs.Common.{subst, add-zero, add_assoc, mul-le-mul_right, mul_assoc, suc-mul, add-mul, zero-add, zero-mul, arith, pow_pos, ne_eqb, eqb-true}
+use Rattle.std.proofs.Common.{le-leb}
 use native.Mathlib.Decide.{dec_lt}
 use borrow.Author.Tests.{eqb-false, not-true}
 use Rattle.blocks.specs.declared.Place.{Place}

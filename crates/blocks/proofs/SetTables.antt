@@ -1,6 +1,7 @@
 -- The table of a set of blocks with their locks: its entries, its referents, its locks, its free slots, and that it is undamaged and the only one. Each is
 -- read off the block of the set that holds a slot's first address.
-use Rattle.std.proofs.Common.{◌≡◌, ℕ, zero, suc, ◌+◌, ◌-◌, ◌*◌, ◌^◌, ◌<◌, ◌≤◌, Bool, true, false, eqb, List, length, get_or, sym, refl, ap, ◌∙◌, ap₂, inl, inr, add-zero, mul-le-mul_right, suc-mul, le-div_iff_mul-le, zero-mul, arith, ext_get_or, pow_pos, ne_eqb, le-leb}
+use Rattle.std.proofs.Common.{◌≡◌, ℕ, zero, suc, ◌+◌, ◌-◌, ◌*◌, ◌^◌, ◌<◌, ◌≤◌, Bool, true, false, eqb, List, length, get_or, sym, refl, ap, ◌∙◌, ap₂, inl, inr}
+use Rattle.std.proofs.Common.{add-zero, mul-le-mul_right, suc-mul, le-div_iff_mul-le, zero-mul, arith, ext_get_or, pow_pos, ne_eqb, le-leb}
 use mathlib.Core.List.{Memᴰ}
 use native.Mathlib.Decide.{dec_lt}
 use borrow.Author.Tests.{lt-leb}
@@ -59,7 +60,8 @@ module _ (t m : ℕ) (one : 1 ≤ t) (le : t ≤ m) (top : m < lock_bit) (ps : L
         ∙ sym (entry-missing ps _ (outside-missing t m (ranges ps) set (base + i * 2 ^ t) (inr (past i (omega arith)))))
   ]
 
-  pub table_taken : (i s e : ℕ) → referent_of (ranges ps) (base + i * 2 ^ t) ≡ Found s e → get_or (table_of t m ps) i 0 ≡ entry_of e (locked_of ps (base + i * 2 ^ t))
+  pub table_taken : (i s e : ℕ) → referent_of (ranges ps) (base + i * 2 ^ t) ≡ Found s e → get_or (table_of t m ps) i 0 ≡ entry_of e
+      (locked_of ps (base + i * 2 ^ t))
   table_taken i s e h = table-entry i ∙ entry_found ps _ s e h
 
   pub table-free : (i : ℕ) → referent_of (ranges ps) (base + i * 2 ^ t) ≡ Missing → get_or (table_of t m ps) i 0 ≡ 0

@@ -1,6 +1,7 @@
 -- Sets of aligned blocks that don't overlap: the block of the set that holds an address is the first of the list that does, and no other does. The lock of
 -- an address is that of the same block.
-use Rattle.std.proofs.Common.{◌≡◌, ℕ, ◌+◌, ◌-◌, ◌*◌, ◌^◌, ◌<◌, ◌≤◌, Bool, true, false, cond, leb, ◌⊎◌, List, [], ◌∷◌, sym, refl, ap, ◌∙◌, subst, inl, inr, arith, ltb-true, leb-true}
+use Rattle.std.proofs.Common.{◌≡◌, ℕ, ◌+◌, ◌-◌, ◌*◌, ◌^◌, ◌<◌, ◌≤◌, Bool, true, false, cond, leb, ◌⊎◌, List, [], ◌∷◌, sym, refl, ap, ◌∙◌, subst, inl, inr}
+use Rattle.std.proofs.Common.{arith, ltb-true, leb-true}
 use mathlib.Core.Bool.{false≢true}
 use mathlib.Core.List.Memᴰ
 use mathlib.Core.List.{Memᴰ}

@@ -1,5 +1,6 @@
 -- Aligned blocks in slots of 2 ^ t bytes: both the start and the size are multiples of 2 ^ t, so that an address is in the block where its slot is.
-use Rattle.std.proofs.Common.{◌≡◌, ℕ, ◌+◌, ◌-◌, ◌*◌, ◌/◌, ◌^◌, ◌<◌, ◌≤◌, true, leb, sym, refl, ap, ◌∙◌, mul-le-mul_right, mul_assoc, div-lt_iff_lt-mul, add-mul, le-div_iff_mul-le, le_of_mul-le-mul_right, mul-div_cancel, arith, pow_pos, shr-shr, ltb-true, lt-ltb, le-leb, leb-true}
+use Rattle.std.proofs.Common.{◌≡◌, ℕ, ◌+◌, ◌-◌, ◌*◌, ◌/◌, ◌^◌, ◌<◌, ◌≤◌, true, leb, sym, refl, ap, ◌∙◌, mul-le-mul_right, mul_assoc, div-lt_iff_lt-mul, add-mul}
+use Rattle.std.proofs.Common.{le-div_iff_mul-le, le_of_mul-le-mul_right, mul-div_cancel, arith, pow_pos, shr-shr, ltb-true, lt-ltb, le-leb, leb-true}
 use native.Mathlib.Nat.{add-sub_cancel_left}
 use Rattle.blocks.specs.Blocks.{base, floor, Block, holds, Aligned}
 use Rattle.common.proofs.Booleans.{and_left, and_right, and_both}

@@ -1,5 +1,7 @@
 -- Damaged and undamaged tables, slot by slot, for slots of 2 ^ t bytes: a table is damaged where one slot is bad, and a good slot's block is whole.
-use Rattle.std.proofs.Common.{◌≡◌, ℕ, zero, suc, ◌+◌, ◌-◌, ◌^◌, ◌<◌, ◌≤◌, Bool, true, false, cond, not, ◌&&◌, ◌||◌, eqb, leb, List, length, get_or, sym, refl, ap, ◌∙◌, subst, ⊎_elim, true≢false, le_refl, le_of_suc-le-suc, not-suc-le-zero, add-sub_of_le, eq-or-lt_of_le, arith, eq-eqb, ne_eqb, eqb-true, le-leb, leb-true}
+use Rattle.std.proofs.Common.{◌≡◌, ℕ, zero, suc, ◌+◌, ◌-◌, ◌^◌, ◌<◌, ◌≤◌, Bool, true, false, cond, not, ◌&&◌, ◌||◌, eqb, leb, List, length, get_or, sym, refl}
+use Rattle.std.proofs.Common.{ap, ◌∙◌, subst, ⊎_elim, true≢false, le_refl, le_of_suc-le-suc, not-suc-le-zero, add-sub_of_le, eq-or-lt_of_le, arith, eq-eqb}
+use Rattle.std.proofs.Common.{ne_eqb, eqb-true, le-leb, leb-true}
 use borrow.Author.Tests.{lt-leb, not-false}
 use Rattle.blocks.specs.Blocks.{floor}
 use Rattle.blocks.specs.Tables.{any, lock_bit, entry_order, entry_locked, entry_of, torn, bad, damaged_by}

@@ -1,6 +1,7 @@
 -- Document 01, "Blocks and their table": plain and marked (out-of-bounds) pointers, exact and wrapping sums, and the check by xor and shift.
 -- Request 6 of document 02: what lies outside the arena. A slot has 2 ^ t bytes.
-use Rattle.std.specs.Prelude.{ℕ, ◌+◌, ◌-◌, ◌/◌, ◌%◌, ◌^◌, Bool, true, false, cond, not, ◌&&◌, ◌||◌, ℤ, pos, negsuc, ◌+ℤ◌, ◌==◌, bit_xor, int_le, int_lt, nat_le, nat_lt}
+use Rattle.std.specs.Prelude.{ℕ, ◌+◌, ◌-◌, ◌/◌, ◌%◌, ◌^◌, Bool, true, false, cond, not, ◌&&◌, ◌||◌, ℤ, pos, negsuc, ◌+ℤ◌, ◌==◌, bit_xor, int_le, int_lt, nat_le}
+use Rattle.std.specs.Prelude.{nat_lt}
 use Rattle.std.proofs.Math.IntN.{sub_ℕ}
 use Rattle.blocks.specs.Blocks.{base}
 use Rattle.blocks.specs.declared.Referent.{Referent}

@@ -12,8 +12,7 @@ use Rattle.takes.specs.declared.Record.{Record}
 use Rattle.takes.specs.declared.Record.TheVariants.{Get, Give, Step, Read, Write, Left, Copy, Fill, Lock, Unlock, Again, Set, Grid}
 use Rattle.takes.specs.declared.Reading.{Reading}
 use Rattle.takes.specs.declared.Reading.TheVariants.{Found, Refused}
-use Rattle.common.proofs.Arms.{NoneOf, no_arm}
-use Rattle.cabi.specs.Flat.{flat, flat_found, flat_reading, record_as, record_from_flat, unknown, write_flat}
+use Rattle.cabi.specs.Flat.{flat, flat_found, flat_reading, record_from_flat, unknown, write_flat}
 use Rattle.cabi.specs.declared.FlatRecord.{FlatRecord}
 
 -- a record that C reads is the one that it writes back
@@ -36,19 +35,6 @@ flat_back (Grid d a rows columns row column) = refl
 grid-fields : let f = flat (Grid 1 2 3 4 5 6) in
     (f.d ≡ 1) × (f.a ≡ 2) × (f.rows ≡ 3) × (f.columns ≡ 4) × (f.row ≡ 5) × (f.column ≡ 6)
 grid-fields = (refl, refl, refl, refl, refl, refl)
-
-pub flat-is : {r s : Record} → r ≡ s → flat s ≡ flat r
-flat-is e = sym (ap flat e)
-
-module _ (f : FlatRecord) where
-  pub record_is : (k : ℕ) → f.operation ≡ k → record_as k f ≡ record_from_flat f
-  record_is k e = sym (ap (λ (n : ℕ). record_as n f) e)
-
-  -- no arm before has the operation
-  pub grid-is : NoneOf f.operation 12 → Grid f.d f.a f.rows f.columns f.row f.column ≡ record_from_flat f
-  grid-is n =
-      let t = no_arm f.operation 12 n in
-      rw (t 1 refl, t 2 refl, t 3 refl, t 4 refl, t 5 refl, t 6 refl, t 7 refl, t 8 refl, t 9 refl, t 10 refl, t 11 refl, t 12 refl)
 
 module _ {g : Given} (reading : Reading) where
   pub found-is : (r : Record) (next : ℕ) (f : FlatRecord) → given reading ≡ g → reading ≡ Found r next → f ≡ flat r

@@ -1,6 +1,7 @@
 -- What a call may rely on of a pointer's referent, and the outcomes of the calls that go by it. The proofs of `unchecked` cite these over the values of their
 -- places: what `locate_plain` found, in a step `locate`, what `left_in` and `offset` gave, what was stored and answered.
-use Rattle.std.proofs.Common.{◌≡◌, ℕ, ◌+◌, ◌-◌, ◌*◌, ◌/◌, ◌^◌, ◌<◌, ◌≤◌, min, max, Bool, true, false, cond, ◌||◌, eqb, ltb, List, [], ◌∷◌, ◌++◌, length, replicate, sym, refl, ap, ◌∙◌, subst, ap₂, add-mul, mul-div_cancel, arith, pow_pos, pow_mono, le-ltb, lt-ltb, eqb-true, leb-false}
+use Rattle.std.proofs.Common.{◌≡◌, ℕ, ◌+◌, ◌-◌, ◌*◌, ◌/◌, ◌^◌, ◌<◌, ◌≤◌, min, max, Bool, true, false, cond, ◌||◌, eqb, ltb, List, [], ◌∷◌, ◌++◌, length}
+use Rattle.std.proofs.Common.{replicate, sym, refl, ap, ◌∙◌, subst, ap₂, add-mul, mul-div_cancel, arith, pow_pos, pow_mono, le-ltb, lt-ltb, eqb-true, leb-false}
 use borrow.Author.Tests.{not-false}
 use Rattle.common.specs.Refusals.{Refusal, ◌when◌, first}
 use Rattle.common.specs.Bytes.{big_endian, bytes_of, over, copied}
@@ -116,21 +117,22 @@ pub record Led (t m : ℕ) (c : Call) (a tab : List ℕ) (p s e : ℕ) : Type 0 
   pub within : Within t m s e p
 
 -- what `locate_plain` finds by the table alone, l
-module _ {t m : ℕ} {c : Call} {a tab : List ℕ} {l : Located} (z : Ready t m c a tab) (p : ℕ) (found : l ≡ located_plain (heap_view t m (heap_of [] tab)) p) where
-  abbrev v : View
-  v = heap_view t m (heap_of a tab)
+module _ {t m : ℕ} {c : Call} {a tab : List ℕ} {l : Located} (z : Ready t m c a tab) (p : ℕ) (found : l ≡ located_plain (heap_view t m (heap_of [] tab)) p)
+  where
+    abbrev v : View
+    v = heap_view t m (heap_of a tab)
 
-  -- a number refuses the call
-  pub plain-refused : (own : List Refusal) → state_rules c v ≡ plain_rules v p ++ own → {k : ℕ} → l ≡ Refused k → {r : Answer} → r ≡ answer k 0
-      → outcome r a tab ≡ heap_step t m c (heap_of a tab)
-  plain-refused own q is e = led-refused z p (plain_rules v p) own (plain-has-home v p) q found is e
+    -- a number refuses the call
+    pub plain-refused : (own : List Refusal) → state_rules c v ≡ plain_rules v p ++ own → {k : ℕ} → l ≡ Refused k → {r : Answer} → r ≡ answer k 0
+        → outcome r a tab ≡ heap_step t m c (heap_of a tab)
+    plain-refused own q is e = led-refused z p (plain_rules v p) own (plain-has-home v p) q found is e
 
-  -- and a block holds p
-  pub led : {s e : ℕ} → l ≡ Inside s e → Led t m c a tab p s e
-  led {s} {e} is =
-      let f : located_plain v p ≡ Inside s e = sym found ∙ is in
-      let (n, h) = plain-inside v p f in
-      record { ready = z; found = f; within = plain-within t m a tab z.sound p s e (is_plain v p n) h }
+    -- and a block holds p
+    pub led : {s e : ℕ} → l ≡ Inside s e → Led t m c a tab p s e
+    led {s} {e} is =
+        let f : located_plain v p ≡ Inside s e = sym found ∙ is in
+        let (n, h) = plain-inside v p f in
+        record { ready = z; found = f; within = plain-within t m a tab z.sound p s e (is_plain v p n) h }
 
 module _ {t m : ℕ} {c : Call} {a tab : List ℕ} {p s e : ℕ} (d : Led t m c a tab p s e) where
   abbrev seen : View
@@ -254,7 +256,8 @@ module _ {t m p y n : ℕ} {a tab : List ℕ} (z : Ready t m (Copy p y n) a tab)
       rw e (step-refused t m (Copy p y n) a tab z k (number ∙ sym (first-stays (both_plain x p y) (lock_rules x p) (λ r. some (number ∙ r)))) some)
 
   -- and where both lead to a block only the lock is left to judge
-  pub copy-last : {s e s2 e2 : ℕ} → located_plain x p ≡ Inside s e → located_plain x y ≡ Inside s2 e2 → first (state_rules (Copy p y n) x) ≡ first (lock_rules x p)
+  pub copy-last : {s e s2 e2 : ℕ} → located_plain x p ≡ Inside s e → located_plain x y ≡ Inside s2 e2
+      → first (state_rules (Copy p y n) x) ≡ first (lock_rules x p)
   unfolding state_rules
   copy-last d f = first-goes-on (both_plain x p y) (lock_rules x p) refl (numbers-first ∙ rw (d, f))
 

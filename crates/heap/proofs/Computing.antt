@@ -11,6 +11,8 @@ use Rattle.heap.specs.Heaps.{Heap, inside_by_check, entered, heap_step, heap_cal
 use Rattle.heap.specs.declared.Call.{Call}
 
 unfoldable pub computed : Call → Heap → Outcome Heap
-unfolding big_endian bytes_of over copied floor any entry_order torn bad damaged_by locked_in referent_in sought signed check_bits within in_reach order_of needed_order
-    all_free range_start free_range maximal lowest at_order from_order place_in argument_rules state_rules rules value stored inside_by_check entered heap_step heap_call
+unfolding big_endian bytes_of over copied floor any entry_order torn bad damaged_by locked_in referent_in sought signed check_bits within in_reach order_of
+    needed_order
+    all_free range_start free_range maximal lowest at_order from_order place_in argument_rules state_rules rules value stored inside_by_check entered heap_step
+    heap_call
 computed c h = heap_call c h

@@ -1,7 +1,8 @@
 -- An accepted place has its row and column inside the grid, since it is not refused 30, so the distance from p by the columns gives both back (`one_place`).
 -- And the whole grid lies in p's block, since it is not refused 25, so the place does (`reaches`), and the block of any of its addresses is p's. No other rule
 -- goes by the place, so any other of the grid passes them all too (`all_pass`).
-use Rattle.std.proofs.Common.{◌≡◌, ℕ, ◌+◌, ◌*◌, ◌/◌, ◌^◌, ◌<◌, ◌≤◌, false, leb, sym, refl, ap, ◌∙◌, add-zero, mul-le-mul_right, suc-mul, arith, ltb-false, leb-false}
+use Rattle.std.proofs.Common.{◌≡◌, ℕ, ◌+◌, ◌*◌, ◌/◌, ◌^◌, ◌<◌, ◌≤◌, false, leb, sym, refl, ap, ◌∙◌, add-zero, mul-le-mul_right, suc-mul, arith, ltb-false}
+use Rattle.std.proofs.Common.{leb-false}
 use mathlib.Core.Bool.{false≢true}
 use native.Mathlib.Nat.{mul-add-div_right, div-eq_of_lt}
 use borrow.Author.Tests.{lt-leb}

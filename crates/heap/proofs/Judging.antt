@@ -1,6 +1,7 @@
 -- A call that has been judged up to its state, by its list of refusals. The list's first is that of 8, the arguments' own first, 20 and the state's
 -- (`rules-first`), which is the order in which the code finds them (`judge`).
-use Rattle.std.proofs.Common.{◌≡◌, ℕ, zero, suc, ◌-◌, ◌^◌, ◌≤◌, Bool, true, false, cond, not, eqb, leb, List, [], ◌∷◌, length, replicate, sym, refl, ap, ◌∙◌, subst, ap₂, arith, eq-eqb, ne_eqb, eqb-true, le-leb, leb-true}
+use Rattle.std.proofs.Common.{◌≡◌, ℕ, zero, suc, ◌-◌, ◌^◌, ◌≤◌, Bool, true, false, cond, not, eqb, leb, List, [], ◌∷◌, length, replicate, sym, refl, ap, ◌∙◌}
+use Rattle.std.proofs.Common.{subst, ap₂, arith, eq-eqb, ne_eqb, eqb-true, le-leb, leb-true}
 use native.Mathlib.Decide.{dec_lt}
 use borrow.Author.Tests.{eqb-false, not-false}
 use lib.ListN.{length-replicate}

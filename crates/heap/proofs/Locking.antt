@@ -1,6 +1,7 @@
 -- A lock stamps the slots of p's block, which all have one entry: where that has the lock already, the table stays (`stays`), and else each has the lock after
 -- it (`locks`). Refused, the call leaves the heap as it was.
-use Rattle.std.proofs.Common.{◌≡◌, ℕ, zero, suc, ◌+◌, ◌-◌, ◌*◌, ◌^◌, ◌<◌, ◌≤◌, Bool, false, List, length, get_or, replicate, sym, refl, ap, ◌∙◌, subst, ap₂, arith, ext_get_or, lt-ltb, le-leb}
+use Rattle.std.proofs.Common.{◌≡◌, ℕ, zero, suc, ◌+◌, ◌-◌, ◌*◌, ◌^◌, ◌<◌, ◌≤◌, Bool, false, List, length, get_or, replicate, sym, refl, ap, ◌∙◌, subst, ap₂}
+use Rattle.std.proofs.Common.{arith, ext_get_or, lt-ltb, le-leb}
 use mathlib.Core.Bool.{false≢true}
 use native.Mathlib.Decide.{dec_lt}
 use lib.ListN.{length-replicate, get_or-replicate}
@@ -80,7 +81,8 @@ module _ (t m : ℕ) (tab : List ℕ) (len : length tab ≡ 2 ^ (m - t)) (p s e 
       let at : slot_of t (base + (slot_of t s + i) * 2 ^ t) ≡ slot_of t s + i = slot-start t (slot_of t s + i) in
       let held = slots-held t m (block s e) slots (base + (slot_of t s + i) * 2 ^ t)
       (record { past = omega arith; low = omega (arith, first_slot); high = omega (arith, first_slot) }) in
-      b.entries (slot_of t s + i) (held_low (block s e) _ held) (held_high (block s e) _ held) ∙ is ∙ sym (get_or-replicate (2 ^ (e - t)) i (entry_of e l) 0 lt))
+      b.entries (slot_of t s + i) (held_low (block s e) _ held) (held_high (block s e) _ held) ∙ is
+      ∙ sym (get_or-replicate (2 ^ (e - t)) i (entry_of e l) 0 lt))
 
   -- the slot of p is one of those that are stamped
   locks : e < 128 → locked_in t new p ≡ l

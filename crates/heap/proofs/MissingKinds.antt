@@ -1,7 +1,8 @@
 -- What 27 and 22 tell of a call's pointers: of each call's list, the conditions of the two numbers are tests of its pointers (`Listed`), so the laws of
 -- ordered lists say which holds where a number is given, and which number is given where one holds; and inside the arena a pointer has no referent exactly
 -- where it is sought at a free slot (`free-is`).
-use Rattle.std.proofs.Common.{◌≡◌, ℕ, ◌-◌, ◌/◌, ◌^◌, ◌≤◌, Bool, true, false, not, ◌&&◌, ◌||◌, ◌⊎◌, List, [], ◌∷◌, ◌++◌, length, ℤ, pos, negsuc, sym, refl, ap, ◌∙◌, subst, inl, inr, arith}
+use Rattle.std.proofs.Common.{◌≡◌, ℕ, ◌-◌, ◌/◌, ◌^◌, ◌≤◌, Bool, true, false, not, ◌&&◌, ◌||◌, ◌⊎◌, List, [], ◌∷◌, ◌++◌, length, ℤ, pos, negsuc, sym, refl, ap}
+use Rattle.std.proofs.Common.{◌∙◌, subst, inl, inr, arith}
 use mathlib.Core.Bool.{false≢true}
 use Rattle.common.specs.Refusals.{Refusal, first, any_of, is_one_of}
 use Rattle.blocks.specs.Blocks.{base, missing}
@@ -115,7 +116,8 @@ module _ (t m : ℕ) (h : Heap) (low : t ≤ m) (slots : length h.table ≡ 2 ^ 
   free-slots [] o d = d
   free-slots (p ∷ ps) o d = go (free-slots ps (or-false-right (outside_arena v p) _ o)) (or_cases (dead v p) (any_of (dead v) ps) d)
     where
-      go : (any_of (dead v) ps ≡ true → any_of (at_free_slot v) ps ≡ true) → (dead v p ≡ true) ⊎ (any_of (dead v) ps ≡ true) → any_of (at_free_slot v) (p ∷ ps) ≡ true
+      go : (any_of (dead v) ps ≡ true → any_of (at_free_slot v) ps ≡ true) → (dead v p ≡ true) ⊎ (any_of (dead v) ps ≡ true)
+          → any_of (at_free_slot v) (p ∷ ps) ≡ true
       go next (inl x) = rw (← free-is p, or-false-left (outside_arena v p) _ o, x)
       go next (inr x) = or_right (at_free_slot v p) (next x)
 

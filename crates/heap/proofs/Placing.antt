@@ -1,6 +1,7 @@
 -- The outcomes of get, give, lock and unlock: a block put where the placing rule says, a free range of at least its order (`place-sound`), and a block taken
 -- away or stamped anew, whose slots are those from its start on (`slots-of`).
-use Rattle.std.proofs.Common.{◌≡◌, ℕ, ◌+◌, ◌-◌, ◌*◌, ◌/◌, ◌^◌, ◌≤◌, Bool, true, false, cond, not, ◌||◌, eqb, ltb, List, [], ◌∷◌, length, replicate, sym, refl, ap, ◌∙◌, subst, mul-le-mul_right, add-mul, arith, pow_mono, ltb-false, eq-eqb, ne_eqb}
+use Rattle.std.proofs.Common.{◌≡◌, ℕ, ◌+◌, ◌-◌, ◌*◌, ◌/◌, ◌^◌, ◌≤◌, Bool, true, false, cond, not, ◌||◌, eqb, ltb, List, [], ◌∷◌, length, replicate, sym, refl}
+use Rattle.std.proofs.Common.{ap, ◌∙◌, subst, mul-le-mul_right, add-mul, arith, pow_mono, ltb-false, eq-eqb, ne_eqb}
 use Rattle.common.specs.Refusals.{◌when◌, first}
 use Rattle.common.specs.Bytes.{over}
 use Rattle.blocks.specs.Blocks.{base, start_in, order_in}

@@ -1,6 +1,7 @@
 -- A step: the code's sum, which wraps, and its comparisons with the referent's bounds, against the exact sum. The two are equal, or the exact one is negative
 -- and the other past every block and its reach (`sum-cases`).
-use Rattle.std.proofs.Common.{◌≡◌, ℕ, suc, ◌+◌, ◌-◌, ◌%◌, ◌^◌, ◌<◌, ◌≤◌, Bool, true, false, cond, not, ◌&&◌, ◌||◌, ltb, leb, ◌⊎◌, List, [], ◌∷◌, ℤ, pos, negsuc, sym, refl, ap, ◌∙◌, ap₂, inl, inr, ⊎_elim, arith, pow_mono, ltb-true, le-ltb, lt-ltb, le-leb}
+use Rattle.std.proofs.Common.{◌≡◌, ℕ, suc, ◌+◌, ◌-◌, ◌%◌, ◌^◌, ◌<◌, ◌≤◌, Bool, true, false, cond, not, ◌&&◌, ◌||◌, ltb, leb, ◌⊎◌, List, [], ◌∷◌, ℤ, pos, negsuc}
+use Rattle.std.proofs.Common.{sym, refl, ap, ◌∙◌, ap₂, inl, inr, ⊎_elim, arith, pow_mono, ltb-true, le-ltb, lt-ltb, le-leb}
 use mathlib.Core.Bool.{and-false}
 use native.Mathlib.Decide.{dec_lt, dec_le}
 use borrow.Author.Tests.{lt-leb}

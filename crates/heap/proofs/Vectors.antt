@@ -91,7 +91,8 @@ holds-047 = refl
 -- Request 2: all 64 bytes are filled and given back, then a block of 32 and one of 16 are cut from them. Both are clean, and the rest keeps its bytes.
 clean-blocks : hold_at
     (answers (Get 50) 0 65536 ∷ answers (Fill 65536 170 64) 0 64 ∷ answers (Give 65536) 0 0 ∷ arena_is (replicate 64 170) ∷ answers (Get 20) 0 65536
-    ∷ arena_is (replicate 32 0 ++ replicate 32 170) ∷ answers (Get 16) 0 65568 ∷ answers (Read 65568 4) 0 0 ∷ arena_is (replicate 48 0 ++ replicate 16 170) ∷ [])
+    ∷ arena_is (replicate 32 0 ++ replicate 32 170) ∷ answers (Get 16) 0 65568 ∷ answers (Read 65568 4) 0 0 ∷ arena_is (replicate 48 0 ++ replicate 16 170) ∷
+    [])
     (fresh_heap 6) ≡ true
 unfolding hold_at
 clean-blocks = refl

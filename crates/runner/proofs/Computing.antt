@@ -22,6 +22,8 @@ use Rattle.runner.specs.TakeRuns.{most_steps, run_by}
 
 unfoldable pub carried : List ℕ → Carried
 unfolding big_endian bytes_of over copied floor any entry_order torn bad damaged_by locked_in referent_in sought signed check_bits within in_reach order_of
-    needed_order all_free range_start free_range maximal lowest at_order from_order place_in argument_rules state_rules rules value stored inside_by_check entered
-    heap_step heap_call known kinds_of record_of read_rules read_bytes walk head_number stray_from file_number records_of registers_after carry_out answers_bytes run_by
+    needed_order all_free range_start free_range maximal lowest at_order from_order place_in argument_rules state_rules rules value stored inside_by_check
+    entered
+    heap_step heap_call known kinds_of record_of read_rules read_bytes walk head_number stray_from file_number records_of registers_after carry_out
+    answers_bytes run_by
 carried file = carry_out (records_of file) most_steps (machine_at_first (size_byte file))

@@ -35,7 +35,8 @@ some-record (x ∷ rs) zero h = (x, refl)
 some-record (x ∷ rs) (suc i) h = some-record rs i (le_of_suc-le-suc h)
 
 -- of records that do not stray, none does
-pub straight-first : (rs : List Record) (k i : ℕ) (r : Record) (later : List Record) → stray_from k rs ≡ false → drop i rs ≡ r ∷ later → strays (k + i) r ≡ false
+pub straight-first : (rs : List Record) (k i : ℕ) (r : Record) (later : List Record) → stray_from k rs ≡ false → drop i rs ≡ r ∷ later
+    → strays (k + i) r ≡ false
 unfolding stray_from
 straight-first [] k zero r later b e = absurd (omega (arith, ap length e))
 straight-first [] k (suc i) r later b e = absurd (omega (arith, ap length e))

@@ -83,6 +83,7 @@ module _ (m : ℕ) (out : List ℕ) where
     unfolding write_head
     no_room l h = rw (le-leb smallest_arena m low, le-leb m largest_arena l, lt-ltb (length out) head_length h)
 
-    pub head-stored : m ≤ largest_arena → head_length ≤ length out → record { number = 0; count = head_length; slice = set (set out 0 1) 1 m } ≡ write_head m out
+    pub head-stored : m ≤ largest_arena → head_length ≤ length out → record { number = 0; count = head_length; slice = set (set out 0 1) 1 m } ≡ write_head m
+        out
     unfolding write_head
     head-stored l h = rw (le-leb smallest_arena m low, le-leb m largest_arena l, le-ltb (length out) head_length h, two-set out 1 m h)

@@ -118,10 +118,6 @@ sound (Again d k) = record { in_table = refl; bytes = refl; field-count = refl; 
 sound (Set d n) = record { in_table = refl; bytes = refl; field-count = refl; padded-high = refl; padded-bytes = refl }
 sound (Grid d a rows columns row column) = record { in_table = refl; bytes = refl; field-count = refl; padded-high = refl; padded-bytes = refl }
 
--- what is made of the record s is made of r, which it is
-pub taken-apart : {r s : Record} {op : ℕ} {vs : List ℕ} → r ≡ s → (op ≡ operation s) × (vs ≡ padded (fields s)) → (op ≡ operation r) × (vs ≡ padded (fields r))
-taken-apart e t = (t.0 ∙ sym (ap operation e), t.1 ∙ sym (ap (λ (r : Record). padded (fields r)) e))
-
 -- The writer's returns, op and vs being the record taken apart.
 module _ (r : Record) (out : List ℕ) (op : ℕ) (vs : List ℕ) (taken : (op ≡ operation r) × (vs ≡ padded (fields r))) where
   pub values-known : known op ≡ true

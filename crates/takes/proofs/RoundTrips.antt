@@ -111,7 +111,8 @@ read_back (x ∷ []) h w = absurd (w.nonzero (omega (arith, w.enough)))
 read_back (x ∷ op ∷ bs) h w =
     let p = parted op w.listed bs in
     let l : sizes (kinds_of op) ≤ length bs = omega (arith, w.enough, w.exact) in
-    let v : value_bytes (kinds_of op) (values (kinds_of op) bs) ≡ take (sizes (kinds_of op)) bs = values-back (kinds_of op) bs (bytes_drop 2 (x ∷ op ∷ bs) h) l in
+    let v : value_bytes (kinds_of op) (values (kinds_of op) bs) ≡ take (sizes (kinds_of op)) bs = values-back (kinds_of op) bs (bytes_drop 2 (x ∷ op ∷ bs) h) l
+    in
     let e : 1 + x ≡ suc (suc (sizes (kinds_of op))) = omega (arith, w.exact) in
     rw (p.0, p.1, e, v) (ap (λ (n : ℕ). n ∷ op ∷ take (sizes (kinds_of op)) bs) (sym w.exact))
 
@@ -135,7 +136,8 @@ walk-forth (r ∷ rs) s at h e =
     from_found s at w ∙ rw (t, walk-forth rs s (next_place s at) h.1 d)
 
 -- The records that are walked to the end stand there. `steps` bounds how many there are.
-walk-back : (steps : ℕ) (s : List ℕ) (at : ℕ) → length s - at ≤ steps → Bytes s → (walk_from s at).number ≡ 0 → records_bytes (walk_from s at).records ≡ drop at s
+walk-back : (steps : ℕ) (s : List ℕ) (at : ℕ) → length s - at ≤ steps → Bytes s → (walk_from s at).number ≡ 0
+    → records_bytes (walk_from s at).records ≡ drop at s
 unfolding records_bytes
 walk-back zero s at f h e = let l : length s ≤ at = omega arith in rw (from_end s at l, drop_of_length-le s l)
 walk-back (suc steps) s at f h e = go (ltb at (length s)) refl (walk-back steps s)

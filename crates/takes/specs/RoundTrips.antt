@@ -38,5 +38,6 @@ pub record ReadsBack (m : ℕ) (rs : List Record) : Type 0 where
 
 -- both round trips of document 01's takes
 pub record RoundTrips : Type 0 where
-  pub written-reads-back : (m : ℕ) (rs : List Record) → smallest_arena ≤ m → m ≤ largest_arena → RecordsFit rs → length (file_of m rs) ≤ longest → ReadsBack m rs
+  pub written-reads-back : (m : ℕ) (rs : List Record) → smallest_arena ≤ m → m ≤ largest_arena → RecordsFit rs → length (file_of m rs) ≤ longest
+      → ReadsBack m rs
   pub read-writes-back : (file : List ℕ) → Bytes file → file_number file ≡ 0 → file_of (size_byte file) (records_of file) ≡ file

@@ -143,7 +143,7 @@ fn declared<'a>(source: &Source<'a>) -> HashSet<&'a str> {
     for line in &source.lines {
         let mut words = line.code.split(|c: char| !c.is_alphanumeric() && c != '_');
         while let Some(word) = words.next() {
-            if ["fn", "const", "struct", "enum", "static", "mod"].contains(&word) {
+            if ["fn", "const", "struct", "enum", "trait", "type", "static", "mod"].contains(&word) {
                 names.extend(words.next());
             }
         }

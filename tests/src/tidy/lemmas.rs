@@ -1,8 +1,9 @@
 //! Definitions and lemmas that nobody cites. Cited is
 //! - what another definition of its file mentions,
-//! - what a file imports from its module and uses,
+//! - what a file imports from its module and uses, or names by its whole path,
 //! - a record's field or a data type's case that any other definition mentions, since these come without an import,
-//! - what docs/CLAIMS.md names, and a function's own proof, whose name ends in `-spec`.
+//! - what docs/CLAIMS.md names, and what the check itself asks of a function's proof: the answers to goals, the
+//!   invariants and measures, each under its goal's name, and `f_spec` of a proof by hand.
 //!
 //! Files of examples are passed over: what is computed there is said for its own sake.
 
@@ -24,18 +25,18 @@ struct Declared<'a> {
 
 pub fn uncited(repository: &Repository) -> Vec<Finding> {
     let files: Vec<Declared> = repository.texts(is_source).map(|(path, text)| declared(path, text)).collect();
+    let cited: HashSet<(String, &str)> = files.iter().flat_map(Declared::cites).collect();
     let claims = repository.text(CLAIMS).unwrap_or_default();
     let claimed: HashSet<&str> = claims.lines().flat_map(quoted).map(|name| name.first_word()).collect();
     let mut findings = Vec::new();
     for file in files.iter().filter(|file| !is_example(file.source.path)) {
-        let importers = importers(file.source.path, &files);
-        for Declaration { name, kind, line } in &file.declarations {
-            let own_proof = file.source.path.ends_with("/Proof.antt") && name.ends_with("-spec");
+        let module = module_of(file.source.path);
+        for declaration @ Declaration { name, kind, line } in &file.declarations {
             let elsewhere = match kind {
-                Kind::Definition => importers.iter().any(|other| other.cites(file.source.path, name)),
+                Kind::Definition => cited.contains(&(module.clone(), name)),
                 Kind::Member => files.iter().any(|other| other.mentions(name)),
             };
-            if !own_proof && !elsewhere && !claimed.contains(name) && !file.mentions(name) {
+            if !elsewhere && !claimed.contains(name) && !file.mentions(name) && !file.is_asked_for(declaration) {
                 findings.push(finding(file.source.path, *line, format!("nobody cites {name}")));
             }
         }
@@ -48,33 +49,53 @@ fn is_example(path: &str) -> bool {
     EXAMPLES.iter().any(|end| name.ends_with(end))
 }
 
-/// The file of a module's path, as `Rattle·heap·specs.specs.Heaps` and, seen from other crates, `Rattle·heap.specs.Heaps`.
-fn file_of(module: &str) -> Option<String> {
-    let (crate_name, inside) = module.strip_prefix("Rattle·")?.split_once('.')?;
-    let crate_name = crate_name.split('·').next()?;
-    Some(format!("crates/{crate_name}/{}.antt", inside.replace('.', "/")))
+/// The module that a file is, as `Rattle.heap.specs.Heaps`, or `Rattle.heap.specs` of a file `Lib.antt`.
+fn module_of(path: &str) -> String {
+    let inside = path.strip_prefix("crates/").unwrap_or(path).trim_end_matches(".antt");
+    format!("Rattle.{}", inside.trim_end_matches("/Lib").replace('/', "."))
 }
 
-fn importers<'a, 'b>(path: &str, files: &'b [Declared<'a>]) -> Vec<&'b Declared<'a>> {
-    let imports =
-        |file: &&Declared| file.source.imports.iter().any(|import| file_of(import.path).as_deref() == Some(path));
-    files.iter().filter(imports).collect()
-}
-
-impl Declared<'_> {
+impl<'a> Declared<'a> {
     /// Whether a declaration of this file mentions a name, other than the one that declares it here.
     fn mentions(&self, name: &str) -> bool {
         is_used(name, |word| self.mentions.get(word).is_some_and(|by| by.iter().any(|other| *other != name)))
     }
 
-    /// Whether this file imports a name of another file, alone or with its whole module, and uses it.
-    fn cites(&self, path: &str, name: &str) -> bool {
-        let imports = self.source.imports.iter().filter(|import| file_of(import.path).as_deref() == Some(path));
-        let mut here = imports.flat_map(|import| {
-            let names = import.names.iter().filter(|known| known.there == name).map(|known| known.here);
-            names.chain(import.whole.then_some(name))
-        });
-        here.any(|name| is_used(name, |word| self.mentions.contains_key(word)))
+    /// The names of modules that this file uses: it imports them, alone or with their whole module, or writes their paths.
+    fn cites(&self) -> HashSet<(String, &'a str)> {
+        let mut cited = HashSet::new();
+        for import in &self.source.imports {
+            let used = import.names.iter().filter(|name| is_used(name.here, |word| self.mentions.contains_key(word)));
+            for name in used {
+                if import.whole {
+                    cited.extend(self.mentions.keys().map(|word| (import.path.to_string(), *word)));
+                } else {
+                    let below = if name.below.is_empty() { "" } else { "." };
+                    cited.insert((format!("{}{below}{}", import.path, name.below), name.there));
+                }
+            }
+        }
+        for line in &self.source.lines {
+            let words = line.code.split(|c: char| c.is_whitespace() || "(){},;".contains(c));
+            for path in words.filter(|word| word.starts_with("Rattle.")) {
+                let names = path.match_indices('.').map(|(at, _)| (&path[..at], &path[at + 1..]));
+                cited.extend(names.map(|(module, rest)| (module.to_string(), rest.split('.').next().unwrap_or(rest))));
+            }
+        }
+        cited
+    }
+
+    /// Whether the check asks for a declaration: its type is the goal of its name, or it is a function's proof by hand.
+    fn is_asked_for(&self, declaration: &Declaration) -> bool {
+        let name = declaration.name;
+        let line = self.source.lines.iter().find(|line| line.number == declaration.line);
+        let said = line.and_then(|line| line.code.split_once(" : ")).map_or("", |(_, said)| said.trim());
+        let mut modules =
+            self.source.imports.iter().filter(|import| {
+                import.whole && [".Goals", ".Given"].iter().any(|module| import.path.ends_with(module))
+            });
+        let is_goal = modules.any(|goals| said == format!("{}.{name}", goals.names[0].here));
+        is_goal || self.source.path.ends_with("/Proof.antt") && name.ends_with("_spec")
     }
 }
 
@@ -107,7 +128,7 @@ mod tests {
 pub used : A
 used = here
 here : A
-here = used′
+here = used'
 imported-only : A
 imported-only = refl
 recursive : ℕ → A
@@ -126,27 +147,49 @@ module _ (a : A) where
     deep = refl
 ";
 
-    #[test]
-    fn a_lemma_that_nobody_cites_is_found() {
-        let user =
-            "use Rattle·a.proofs.L.{used, R as S, imported-only, D}\nf-spec : S\nf-spec = used .field two D -- deep\n";
+    const UNCITED: [(usize, &str); 6] =
+        [(5, "imported-only"), (7, "recursive"), (12, "other"), (14, "one"), (16, "inner"), (19, "deep")];
+
+    /// What is found where another crate's file uses these lemmas, but for what it has not used.
+    fn found_beside(user: &str, used: &[&str]) {
         let files = [
             ("crates/a/proofs/L.antt", LEMMAS),
             ("crates/b/proofs/f/Proof.antt", user),
             (CLAIMS, "`claimed` in `a/proofs/L`"),
         ];
-        let expected =
-            [(5, "imported-only"), (7, "recursive"), (12, "other"), (14, "one"), (16, "inner"), (19, "deep")];
-        let expected = expected.map(|(line, name)| format!("crates/a/proofs/L.antt:{line}: nobody cites {name}"));
+        let expected = UNCITED.iter().filter(|(_, name)| !used.contains(name));
+        let expected: Vec<_> =
+            expected.map(|(line, name)| format!("crates/a/proofs/L.antt:{line}: nobody cites {name}")).collect();
         assert_eq!(found(uncited, &files), expected);
     }
 
     #[test]
-    fn what_a_functions_proof_does_not_pass_on_is_found() {
-        let proof = "use Rattle·a·proofs.proofs.f.Tie as tie\nreturns : tie.Need-returns\nreturns c = tt\n\
-                     left-over : tie.Need-returns\nleft-over c = tt\npub f-spec : A\nf-spec = tie.close (\n  tie.spec\n  returns)\n";
-        let expected = ["crates/a/proofs/f/Proof.antt:4: nobody cites left-over"];
-        assert_eq!(found(uncited, &[("crates/a/proofs/f/Proof.antt", proof)]), expected);
+    fn a_lemma_that_nobody_cites_is_found() {
+        let proof = "pub f_spec : S\nf_spec = used .field two D -- deep\n";
+        found_beside(&format!("use Rattle.a.proofs.L.{{used, R as S, imported-only, D}}\n{proof}"), &[]);
+        found_beside(&format!("use Rattle.a.proofs.{{L.used, L.R as S, L.D}}\n{proof}"), &[]);
+        let whole = "use Rattle.a.proofs.L as M\npub f_spec : M.R\nf_spec = M.used .field two M.D M.deep\n";
+        found_beside(whole, &["deep"]);
+        let paths =
+            "use Rattle.a.proofs.L.{used, R, D}\npub f_spec : R\nf_spec = Rattle.a.proofs.L.inner.1 used field two D\n";
+        found_beside(paths, &["inner"]);
+    }
+
+    #[test]
+    fn what_is_no_answer_of_a_functions_proof_is_found() {
+        let check = |file: &str, proof: &str| found(uncited, &[(&format!("crates/a/proofs/f/{file}.antt"), proof)]);
+        let answers = "use Rattle.a.proofs.f.Goals as goal\npub returns : goal.returns\nreturns c = tt\n\
+                       left-over : goal.returns\nleft-over c = tt\nreturns-2 : (c : Start) → goal.at.returns-2\n";
+        let expected = [(4, "left-over"), (6, "returns-2")];
+        let expected =
+            expected.map(|(line, name)| format!("crates/a/proofs/f/Answers.antt:{line}: nobody cites {name}"));
+        assert_eq!(check("Answers", answers), expected);
+        let invariants = "use Rattle.a.proofs.f.Given as given\nabbrev pub decreases-f : given.decreases-f\n\
+                          abbrev pub loop-i : goal.loop-i\n";
+        let expected = ["crates/a/proofs/f/Invariants.antt:3: nobody cites loop-i"];
+        assert_eq!(check("Invariants", invariants), expected);
+        assert!(check("Proof", "pub f_spec : A\nf_spec = tt\n").is_empty());
+        assert_eq!(check("Answers", "pub f_spec : A\n"), ["crates/a/proofs/f/Answers.antt:1: nobody cites f_spec"]);
     }
 
     #[test]

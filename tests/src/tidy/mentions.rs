@@ -1,5 +1,6 @@
 //! Names in the pages for readers that have gone from the code: what stands alone in backquotes there, and is a name, is a
-//! word of some file that is no page, or the name of a file or folder. What CLAIMS names is held more closely (`claims`).
+//! word of some file that is no page and not in docs/, or the name of a file or folder. What CLAIMS names is held more
+//! closely (`claims`).
 
 use super::claims::quoted;
 use super::{finding, Finding, Repository};
@@ -17,7 +18,7 @@ fn is_of_a_name(c: char) -> bool {
 }
 
 pub fn gone(repository: &Repository) -> Vec<Finding> {
-    let files = repository.texts(|path| !path.ends_with(".md"));
+    let files = repository.texts(|path| !path.ends_with(".md") && !path.starts_with("docs/"));
     let mut known: HashSet<&str> = files.flat_map(|(_, text)| text.split(|c| !is_of_a_name(c))).collect();
     known.extend(repository.paths().flat_map(|path| path.split(['/', '.'])));
     let mut findings = Vec::new();
@@ -41,6 +42,7 @@ mod tests {
         let files = [
             ("README.md", "`both-plain`, `Heaps` and `lib` in `crates/a`; `f x`, `2^m`\nand `both-gone`\n"),
             ("docs/OTHER.md", "`both-gone`"),
+            ("docs/later.patch", "both-gone"),
             ("crates/a/specs/Heaps.antt", "both-plain : A\n"),
             ("crates/a/src/lib.rt", ""),
         ];

@@ -50,7 +50,7 @@ impl Repository {
                 if path.is_file() {
                     let name = path.strip_prefix(root).expect("it is below the root").to_string_lossy().into_owned();
                     files.insert(name, fs::read(&path).unwrap_or_else(|e| panic!("{}: {e}", path.display())));
-                } else if path.is_dir() && !path.ends_with(".git") && !path.ends_with("target") {
+                } else if path.is_dir() && !is_made(root, &path) {
                     folders.push(path);
                 }
             }
@@ -76,11 +76,11 @@ impl Repository {
         self.paths().filter(move |path| test(path)).filter_map(|path| Some((path, self.text(path)?)))
     }
 
-    /// The crates that crates.txt lists.
+    /// The crates that crates.txt lists: the first word of each line, as `cabi` of `cabi staticlib: heap`.
     fn crates(&self) -> Vec<&str> {
         let lines = self.text("crates.txt").unwrap_or_default().lines();
-        let listed = lines.filter(|line| !line.trim_start().starts_with('#'));
-        listed.filter_map(|line| Some(line.split_once(':')?.0.trim())).collect()
+        let listed = lines.map(|line| line.split('#').next().unwrap_or(line));
+        listed.filter_map(|line| line.split(':').next()?.split_whitespace().next()).collect()
     }
 
     /// Everything that is to be mended, in the order of paths and lines.
@@ -103,6 +103,12 @@ impl Repository {
     }
 }
 
+/// Whether git or a build keeps a folder: `rt` makes `out/` in a crate's folder, cargo and `./run` make `target/`.
+fn is_made(root: &Path, folder: &Path) -> bool {
+    let is_out = folder.parent().and_then(Path::parent) == Some(&root.join("crates")) && folder.ends_with("out");
+    is_out || folder.ends_with(".git") || folder.ends_with("target")
+}
+
 /// A path's crate and the part of the crate it lies in: src, specs, proofs or must-fail.
 fn place(path: &str) -> Option<(&str, &str)> {
     let mut names = path.strip_prefix("crates/")?.split('/');
@@ -112,6 +118,13 @@ fn place(path: &str) -> Option<(&str, &str)> {
 /// Whether a file has definitions, code or proofs of a crate.
 fn is_source(path: &str) -> bool {
     matches!(place(path), Some((_, "src" | "specs" | "proofs"))) && (path.ends_with(".rt") || path.ends_with(".antt"))
+}
+
+#[test]
+fn what_is_made_is_passed_over() {
+    let made = |path: &str| is_made(Path::new("/a"), &Path::new("/a").join(path));
+    assert!([".git", "target", "tests/target", "crates/b/out"].into_iter().all(made));
+    assert!(!["out", "crates/out", "crates/b/src/out", "crates/b/data", "crates/b"].into_iter().any(made));
 }
 
 /// A repository of a few files, and what a check finds in it.

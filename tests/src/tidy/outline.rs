@@ -5,6 +5,9 @@ use super::source::Source;
 /// How much further in the parts of a module stand.
 const STEP: usize = 2;
 
+/// What may stand before a signature, a record or a data type.
+const MARKS: [&str; 5] = ["pattern", "unfoldable", "abbrev", "axiom", "pub"];
+
 /// What a file says of a name.
 #[derive(Clone, Copy, PartialEq, Eq)]
 pub enum Kind {
@@ -49,21 +52,20 @@ pub fn outline<'a>(source: &Source<'a>) -> Vec<Head<'a>> {
         let column = line.code.len() - text.len();
         levels.retain(|(level, _)| *level <= column || text.is_empty());
         let &(level, kind) = levels.last().expect("the margin is always open");
-        let mut words = text.split_whitespace().skip_while(|word| ["pub", "abbrev", "unfoldable"].contains(word));
+        let mut words = text.split_whitespace().skip_while(|word| MARKS.contains(word)).peekable();
         let Some(word) = words.next().filter(|word| column == level && !["unfolding", "where"].contains(word)) else {
             continue;
         };
-        let name = match word {
-            "module" => "",
-            "record" | "data" => words.next().unwrap_or_default(),
-            _ => word,
+        // `record {` builds one, and declares none
+        let next = words.next().filter(|next| !next.starts_with('{'));
+        let (name, declares, parts) = match (word, next) {
+            ("module", _) | ("mutual", None) => ("", Vec::new(), Some(Kind::Definition)),
+            ("record" | "data", Some(name)) => (name, vec![name], Some(Kind::Member)),
+            ("ruleset", Some(name)) => (name, vec![name], None),
+            _ => (word, declared_names(text), None),
         };
-        heads.push(Head { line: line.number, name, declares: declared_names(text), kind });
-        match word {
-            "module" => levels.push((column + STEP, Kind::Definition)),
-            "record" | "data" => levels.push((column + STEP, Kind::Member)),
-            _ => {}
-        }
+        heads.push(Head { line: line.number, name, declares, kind });
+        levels.extend(parts.map(|kind| (column + STEP, kind)));
     }
     heads
 }
@@ -76,7 +78,7 @@ fn declared_names(text: &str) -> Vec<&str> {
         match word {
             ":" if open == 0 => return names,
             "=" if open == 0 => return Vec::new(),
-            "pub" | "abbrev" | "unfoldable" | "record" | "data" => {}
+            _ if MARKS.contains(&word) => {}
             _ if open == 0 && !word.starts_with(['(', '{']) => names.push(word),
             _ => {}
         }
@@ -84,4 +86,45 @@ fn declared_names(text: &str) -> Vec<&str> {
         open -= word.matches([')', '}']).count().min(open);
     }
     Vec::new()
+}
+
+#[cfg(test)]
+mod tests {
+    use super::*;
+
+    #[test]
+    fn declarations_are_read() {
+        let text = "\
+use Rattle.a.specs.B.{b}
+infix 80 ◌has◌
+
+abbrev pub size {ℓ} : (A : Type ℓ) → ℕ
+size a = record { here = b }
+unfoldable pub ◌has◌ : ℕ → ℕ → Bool
+pub ruleset laws = (one, two)
+pub record Part (n : ℕ) : Type 0 where
+  pub start length : ℕ
+data Kind : Type 0 where
+  one two : Kind
+mutual
+  pub even : ℕ → Bool
+module _ (c : Start) where
+  inner : ℕ
+  inner =
+    let x : ℕ = 1 in x
+  module _ {k : ℕ} where
+    deep : ℕ
+    deep =
+    record {
+      field = 1
+    }
+";
+        let source = Source::new("a.antt", text);
+        let names: Vec<_> = declarations(&source).iter().map(|it| (it.name, it.kind == Kind::Member)).collect();
+        let definitions = |names: &'static [&str]| names.iter().map(|name| (*name, false));
+        let members = |names: &'static [&str]| names.iter().map(|name| (*name, true));
+        let expected = definitions(&["size", "◌has◌", "laws", "Part"]).chain(members(&["start", "length"]));
+        let expected = expected.chain(definitions(&["Kind"])).chain(members(&["one", "two"]));
+        assert_eq!(names, expected.chain(definitions(&["even", "inner", "deep"])).collect::<Vec<_>>());
+    }
 }

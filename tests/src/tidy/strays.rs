@@ -14,10 +14,10 @@ pub fn in_no_crate(repository: &Repository) -> Vec<Finding> {
 
 #[test]
 fn a_file_of_no_crate_is_found() {
-    let files =
-        ["crates/a/src/lib.rt", "crates/a/proofs/f/Proof.antt", "crates/b/src/lib.rt", "crates/a/A.antt", "docs/x.rt"];
-    let mut files: Vec<_> = files.iter().map(|path| (*path, "")).collect();
-    files.push(("crates.txt", "# b: c\na: c\n"));
+    let in_crates = ["crates/a/src/lib.rt", "crates/a/proofs/f/Answers.antt", "crates/c/src/lib.rt"];
+    let strays = ["crates/b/src/lib.rt", "crates/a/A.antt", "docs/x.rt"];
+    let mut files: Vec<_> = in_crates.iter().chain(&strays).map(|path| (*path, "")).collect();
+    files.push(("crates.txt", "# b: c\na: c\nc staticlib: d # b\n"));
     let expected = ["crates/a/A.antt", "crates/b/src/lib.rt", "docs/x.rt"];
     let expected = expected.map(|path| format!("{path}:1: no crate of crates.txt has it"));
     assert_eq!(super::found(in_no_crate, &files), expected);

@@ -29,8 +29,10 @@ module _ (c : After-place_key-found) where
 
 pub returns-then-found-eq-NOWHERE : goal.returns-then-found-eq-NOWHERE
 returns-then-found-eq-NOWHERE c =
-    key-nothing 0 (0 + (2 ^ (c.args.m - c.args.t))) c.args.e _ (omega (arith, small (goal.at.returns-then-found-eq-NOWHERE c).Start)) _ (within (goal.at.returns-then-found-eq-NOWHERE c).Start) (found (goal.at.returns-then-found-eq-NOWHERE c).After-place_key-found) c.if-found-eq-NOWHERE.true
+    key-nothing 0 (0 + (2 ^ (c.args.m - c.args.t))) c.args.e _ (omega (arith, small (goal.at.returns-then-found-eq-NOWHERE c).Start)) _
+    (within (goal.at.returns-then-found-eq-NOWHERE c).Start) (found (goal.at.returns-then-found-eq-NOWHERE c).After-place_key-found) c.if-found-eq-NOWHERE.true
 
 pub returns : goal.returns
 returns c =
-    key-place 0 (0 + (2 ^ (c.args.m - c.args.t))) c.args.e _ (omega (arith, small (goal.at.returns c).Start)) _ (within (goal.at.returns c).Start) (found (goal.at.returns c).After-place_key-found) c.if-found-eq-NOWHERE.false
+    key-place 0 (0 + (2 ^ (c.args.m - c.args.t))) c.args.e _ (omega (arith, small (goal.at.returns c).Start)) _ (within (goal.at.returns c).Start)
+    (found (goal.at.returns c).After-place_key-found) c.if-found-eq-NOWHERE.false

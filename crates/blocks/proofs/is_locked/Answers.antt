@@ -26,7 +26,8 @@ module _ (c : Else-q-lt-BASE) where
   by-entry = rw (le-leb base c.args.q c.if-q-lt-BASE.false)
 
 pub returns-then-table-i : goal.returns-then-table-i
-returns-then-table-i c = sym (by-entry (goal.at.returns-then-table-i c).Else-q-lt-BASE ∙ ap entry_locked (get_or-eq_default c.args.table.now 0 c.if-table-i.true))
+returns-then-table-i c =
+    sym (by-entry (goal.at.returns-then-table-i c).Else-q-lt-BASE ∙ ap entry_locked (get_or-eq_default c.args.table.now 0 c.if-table-i.true))
 
 pub returns : goal.returns
 returns c = ap entry_locked c.wide.ensures ∙ sym (by-entry (goal.at.returns c).Else-q-lt-BASE)

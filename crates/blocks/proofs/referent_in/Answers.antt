@@ -33,7 +33,8 @@ returns-then-entry-eq0 c = sym (by-entry (goal.at.returns-then-entry-eq0 c).Else
 
 pub size_of-size-requires : goal.size_of-size-requires
 size_of-size-requires c =
-    let whole = undamaged-whole c.args.t c.args.m c.args.table.now c.requires.4 _ ((get_or c.args.table.now (slot_of c.args.t c.args.q) 0)) _ c.if-table-i.false refl refl c.if-entry-eq0.false in
+    let whole = undamaged-whole c.args.t c.args.m c.args.table.now c.requires.4 _ ((get_or c.args.table.now (slot_of c.args.t c.args.q) 0)) _
+    c.if-table-i.false refl refl c.if-entry-eq0.false in
     omega (arith, whole.high, c.order_in-e.ensures)
 
 pub nonzero_div-start : goal.nonzero_div-start
@@ -50,4 +51,5 @@ unfolding floor
 returns c =
     let q = c.args.q in
     ap (λ (x : ℕ). Found (base + (q - base) / x * x) c.order_in-e.result) c.size_of-size.ensures
-    ∙ sym (by-entry (goal.at.returns c).Else-table-i ∙ round-some ((get_or c.args.table.now (slot_of c.args.t c.args.q) 0)) _ q c.if-entry-eq0.false (sym c.order_in-e.ensures))
+    ∙ sym (by-entry (goal.at.returns c).Else-table-i ∙ round-some ((get_or c.args.table.now (slot_of c.args.t c.args.q) 0)) _ q c.if-entry-eq0.false
+    (sym c.order_in-e.ensures))

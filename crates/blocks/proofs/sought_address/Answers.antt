@@ -50,7 +50,15 @@ module _ (c : After-size_of) where
 -- in its lower half
 module _ (c : Else-q-slot) where
   in-lower : address c.args.p % 2 ^ c.args.t < 2 ^ (c.args.t - 1)
-  in-lower = omega (arith, c.if-q-slot.false, (let h : c.address_of-q.result % c.size_of-slot.result ≡ address c.args.p % 2 ^ c.args.t = ap₂ ◌%◌ (let h : c.address_of-q.result ≡ address c.args.p = c.address_of-q.ensures in h) (let h : c.size_of-slot.result ≡ 2 ^ c.args.t = c.size_of-slot.ensures in h) in h), (let h : c.size_of.result ≡ 2 ^ (c.args.t - 1) = c.size_of.ensures in h))
+  in-lower =
+      omega (
+        arith,
+        c.if-q-slot.false,
+        (let h : c.address_of-q.result % c.size_of-slot.result ≡ address c.args.p % 2 ^ c.args.t = ap₂ ◌%◌
+            (let h : c.address_of-q.result ≡ address c.args.p = c.address_of-q.ensures in h)
+            (let h : c.size_of-slot.result ≡ 2 ^ c.args.t = c.size_of-slot.ensures in h) in h),
+        (let h : c.size_of.result ≡ 2 ^ (c.args.t - 1) = c.size_of.ensures in h),
+      )
 
 pub nonzero_rem-q : goal.nonzero_rem-q
 nonzero_rem-q c = rw c.size_of-slot.ensures (pow_pos _)
@@ -59,20 +67,36 @@ pub size_of-requires : goal.size_of-requires
 size_of-requires c = omega arith
 
 pub overflow_add-result : goal.overflow_add-result
-overflow_add-result c = omega (arith, below-mark (goal.at.overflow_add-result c).Else-not-is_marked, slot_is (goal.at.overflow_add-result c).After-size_of, slot_small (goal.at.overflow_add-result c).Else-not-is_marked)
+overflow_add-result c =
+    omega (
+      arith,
+      below-mark (goal.at.overflow_add-result c).Else-not-is_marked,
+      slot_is (goal.at.overflow_add-result c).After-size_of,
+      slot_small
+          (goal.at.overflow_add-result c).Else-not-is_marked,
+    )
 
 pub returns-then-q-slot : goal.returns-then-q-slot
 returns-then-q-slot c =
     ap₂ ◌+◌ (is_address (goal.at.returns-then-q-slot c).Else-not-is_marked) (slot_is (goal.at.returns-then-q-slot c).After-size_of)
-    ∙ sym (ap from_zero (sought-up c.args.t c.args.p (is-marked (goal.at.returns-then-q-slot c).Else-not-is_marked) (omega (arith, c.if-q-slot.true, rest-is (goal.at.returns-then-q-slot c).After-size_of, half_is (goal.at.returns-then-q-slot c).After-size_of))))
+    ∙ sym (ap from_zero (sought-up c.args.t c.args.p (is-marked (goal.at.returns-then-q-slot c).Else-not-is_marked)
+    (omega (arith, c.if-q-slot.true, rest-is (goal.at.returns-then-q-slot c).After-size_of, half_is (goal.at.returns-then-q-slot c).After-size_of))))
 
 pub returns-then-q-slot-2 : goal.returns-then-q-slot-2
 returns-then-q-slot-2 c =
     let low = in-lower (goal.at.returns-then-q-slot-2 c).Else-q-slot in
-    sym (ap from_zero (sought-negative c.args.t c.args.p (is-marked (goal.at.returns-then-q-slot-2 c).Else-not-is_marked) low (omega (arith, c.if-q-slot-2.true, is_address (goal.at.returns-then-q-slot-2 c).Else-not-is_marked, slot_is (goal.at.returns-then-q-slot-2 c).After-size_of))))
+    sym (ap from_zero (sought-negative c.args.t c.args.p (is-marked (goal.at.returns-then-q-slot-2 c).Else-not-is_marked) low
+    (omega (
+      arith,
+      c.if-q-slot-2.true,
+      is_address (goal.at.returns-then-q-slot-2 c).Else-not-is_marked,
+      slot_is
+          (goal.at.returns-then-q-slot-2 c).After-size_of,
+    ))))
 
 pub returns : goal.returns
 returns c =
     let low = in-lower (goal.at.returns c).Else-q-slot in
     ap₂ ◌-◌ (is_address (goal.at.returns c).Else-not-is_marked) (slot_is (goal.at.returns c).After-size_of)
-    ∙ sym (ap from_zero (sought-down c.args.t c.args.p (is-marked (goal.at.returns c).Else-not-is_marked) low (omega (arith, c.if-q-slot-2.false, is_address (goal.at.returns c).Else-not-is_marked, slot_is (goal.at.returns c).After-size_of))))
+    ∙ sym (ap from_zero (sought-down c.args.t c.args.p (is-marked (goal.at.returns c).Else-not-is_marked) low
+    (omega (arith, c.if-q-slot-2.false, is_address (goal.at.returns c).Else-not-is_marked, slot_is (goal.at.returns c).After-size_of))))

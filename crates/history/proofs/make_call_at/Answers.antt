@@ -69,7 +69,9 @@ returns-in-10 c =
 pub returns-in_default : goal.returns-in_default
 returns-in_default c =
     let y : ℕ → ℕ = second_byte c.args.s.now c.args.at in
-    made (goal.at.returns-in_default c).After-read_number-c (grid-is _ _ _ c.read_number-b.result c.read_number-c.result y c.in_default.in_default-own.rest ∙ read (goal.at.returns-in_default c).After-read_number-c _ refl) c.make_grid_at.ensures
+    made (goal.at.returns-in_default c).After-read_number-c
+    (grid-is _ _ _ c.read_number-b.result c.read_number-c.result y c.in_default.in_default-own.rest
+    ∙ read (goal.at.returns-in_default c).After-read_number-c _ refl) c.make_grid_at.ensures
 
 -- a call that no argument refuses is ready on a sound heap
 pub give-requires : goal.give-requires

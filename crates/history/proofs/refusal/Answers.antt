@@ -38,17 +38,20 @@ returns-then-any_unknown c =
 pub returns-then-order_of-eq0 : goal.returns-then-order_of-eq0
 returns-then-order_of-eq0 c =
     let s = c.args in
-    replay-number s.calls.now s.arena.now s.table.now s.out.now (whole-calls (goal.at.returns-then-order_of-eq0 c).Else-calls-ne0) (all_known (goal.at.returns-then-order_of-eq0 c).Else-any_unknown)
+    replay-number s.calls.now s.arena.now s.table.now s.out.now (whole-calls (goal.at.returns-then-order_of-eq0 c).Else-calls-ne0)
+    (all_known (goal.at.returns-then-order_of-eq0 c).Else-any_unknown)
     ((ordered c.order_of.ensures).wrong c.if-order_of-eq0.true) refl
 
 pub returns-then-out-calls : goal.returns-then-out-calls
 returns-then-out-calls c =
     let s = c.args in
-    replay-number s.calls.now s.arena.now s.table.now s.out.now (whole-calls (goal.at.returns-then-out-calls c).Else-calls-ne0) (all_known (goal.at.returns-then-out-calls c).Else-any_unknown)
+    replay-number s.calls.now s.arena.now s.table.now s.out.now (whole-calls (goal.at.returns-then-out-calls c).Else-calls-ne0)
+    (all_known (goal.at.returns-then-out-calls c).Else-any_unknown)
     (good-sizes (goal.at.returns-then-out-calls c).Else-order_of-eq0) (lt-ltb (length s.out.now) (answer_length * call_count s.calls.now) (omega arith))
 
 pub returns : goal.returns
 returns c =
     let s = c.args in
-    replay-number s.calls.now s.arena.now s.table.now s.out.now (whole-calls (goal.at.returns c).Else-calls-ne0) (all_known (goal.at.returns c).Else-any_unknown)
+    replay-number s.calls.now s.arena.now s.table.now s.out.now (whole-calls (goal.at.returns c).Else-calls-ne0)
+    (all_known (goal.at.returns c).Else-any_unknown)
     (good-sizes (goal.at.returns c).Else-order_of-eq0) (le-ltb (length s.out.now) (answer_length * call_count s.calls.now) (omega arith))

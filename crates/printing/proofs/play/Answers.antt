@@ -1,12 +1,11 @@
 -- The parts of the buffers that are lent have the lengths of the file's arena and table, so they fit every accepted file (`sized`). An accepted run had room
 -- for its answers (`ran-room`), which are then printed.
-use Rattle.std.proofs.Common.{◌≡◌, ℕ, ◌*◌, ◌/◌, ◌^◌, ◌≤◌, ◌∙◌, List, false, length, arith, ap, sym, length-take-le}
+use Rattle.std.proofs.Common.{◌≡◌, ℕ, ◌/◌, ◌^◌, ◌∙◌, List, false, length, arith, ap, sym, length-take-le}
 use Rattle.blocks.specs.Orders.{order_of}
 use Rattle.blocks.proofs.Floors.{pow-quotient}
 use Rattle.blocks.proofs.Orders.{order-power}
 use Rattle.heap.specs.Views.{slot_order}
 use Rattle.heap.specs.Heaps.{heap_of, wrong_sizes}
-use Rattle.heap.specs.Answers.{answer_length}
 use Rattle.heap.proofs.Judging.{sizes-right}
 use Rattle.takes.specs.Files.{size_byte, file_number}
 use Rattle.runner.proofs.Files.{accepted-file}

@@ -3,8 +3,8 @@ use Rattle.runner.specs.TakeRuns.{most_steps}
 use Rattle.runner.proofs.RunRefusals.{ran-number}
 use Rattle.printing.proofs.run_in.Goals as goal
 
-pub returns-clause-number_value : goal.returns-clause-number_value
-returns-clause-number_value c =
+pub returns-clause-by_file : goal.returns-clause-by_file
+returns-clause-by_file c =
     let a = c.args in
     let r = c.run in
     ran-number a.file.now most_steps a.arena.now a.table.now a.answers.now c.requires.sizes c.requires.answers r.result r.new.arena r.new.table r.new.answers

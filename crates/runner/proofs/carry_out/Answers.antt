@@ -2,9 +2,8 @@ use Prim.Native.Nat.{ℕ, ◌+◌, ◌*◌, ◌≤◌, ◌<◌}
 use mathlib.Core.Path.{◌≡◌, refl, sym, ◌∙◌, ap}
 use mathlib.Core.List.{List}
 use mathlib.Core.Option.{some}
-use mathlib.Core.Logic.{◌⊎◌, inl, inr, ⊎_elim}
+use mathlib.Core.Logic.{◌⊎◌, inl, inr}
 use native.Mathlib.Omega.{arith}
-use borrow.Author.Tests.{ltb-true, ltb-false}
 use lib.ListN.{length, get_or, set, length-set}
 use lib.Seq.{set_out}
 use Rattle.takes.specs.Reading.{read_at}
@@ -72,10 +71,12 @@ module _ (c : Then-due-count) where
   short = omega (arith, here.inside, (accepted-file c.args.file.now judged).head.short)
 
 pub offset_bounds-places-due : goal.offset_bounds-places-due
-offset_bounds-places-due c = omega (arith, in-places c.loop-done.invariant c.requires.runnable.judged c.loop-done-test.true (omega (arith, c.if-due-count.true, c.requires.counted)))
+offset_bounds-places-due c =
+    omega (arith, in-places c.loop-done.invariant c.requires.runnable.judged c.loop-done-test.true (omega (arith, c.if-due-count.true, c.requires.counted)))
 
 pub bounds-places-due : goal.bounds-places-due
-bounds-places-due c = omega (arith, in-places c.loop-done.invariant c.requires.runnable.judged c.loop-done-test.true (omega (arith, c.if-due-count.true, c.requires.counted)))
+bounds-places-due c =
+    omega (arith, in-places c.loop-done.invariant c.requires.runnable.judged c.loop-done-test.true (omega (arith, c.if-due-count.true, c.requires.counted)))
 
 pub overflow_cast-at : goal.overflow_cast-at
 overflow_cast-at c = omega (arith, short (goal.at.overflow_cast-at c).Then-due-count)
@@ -180,7 +181,8 @@ pub loop-done-preserved : goal.loop-done-preserved
 loop-done-preserved c =
     let b = (goal.at.loop-done-preserved c).Then-due-count in
     on (goal.at.loop-done-preserved c).After-store c.stored_in-d.result c.stored_in-d.ensures c.loop-done.registers.values
-    (sym (set_out c.loop-done.registers.values c.stored_in-d.result c.carry_out_one-answer.result.value (omega (arith, c.if-d-lt-COUNT.false, c.loop-done.invariant.sixteen))))
+    (sym (set_out c.loop-done.registers.values c.stored_in-d.result c.carry_out_one-answer.result.value
+    (omega (arith, c.if-d-lt-COUNT.false, c.loop-done.invariant.sixteen))))
     (left b) (found b) (answer-room b) c.due_after-due.result c.due_after-due.ensures
 
 pub shape_of-arena : goal.shape_of-arena
@@ -195,8 +197,11 @@ shape_of-answers c = c.loop-done.invariant.same
 -- out of the loop: the budget is spent, or no record is due
 ended : (c : Left-loop-done) → (c.args.most ≤ c.loop-done.done) ⊎ (length (records_of c.args.file.now) ≤ c.loop-done.due)
 ended c =
-    elim c.loop-done-test.branch
-    [ then-loop-done-test+else-due-count w ↦ inr (omega (arith, w.if-due-count.false, c.requires.counted)) | else-loop-done-test w ↦ inl w.loop-done-test.false ]
+    elim c.loop-done-test.branch [
+      | then-loop-done-test+else-due-count w ↦ inr (omega (arith, w.if-due-count.false, c.requires.counted))
+      | else-loop-done-test w
+          ↦ inl w.loop-done-test.false
+    ]
 
 pub returns : goal.returns
 returns c = rw (c.ended.ensures, ← c.requires.counted) (going_end c.loop-done.invariant (ended (goal.at.returns c).Left-loop-done))

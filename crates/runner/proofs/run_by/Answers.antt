@@ -1,11 +1,9 @@
 -- Each refusal is the first that applies at its return. Past them all the run is what the records leave.
-use Prim.Native.Nat.{ℕ, ◌≤◌}
+use Prim.Native.Nat.{◌≤◌}
 use mathlib.Core.Path.{◌≡◌}
-use mathlib.Core.Bool.{Bool, false, ◌&&◌}
-use mathlib.Core.List.{List}
+use mathlib.Core.Bool.{false, ◌&&◌}
 use native.Mathlib.Omega.{arith}
 use Rattle.blocks.specs.Orders.{smallest_arena}
-use Rattle.takes.specs.declared.Judgement.{Judgement}
 use Rattle.heap.specs.Views.{slot_order}
 use Rattle.heap.specs.Heaps.{heap_of, wrong_sizes}
 use Rattle.heap.proofs.Lengths.{order_other, order-this}
@@ -17,7 +15,8 @@ use Rattle.runner.proofs.Steps.{allowed-most}
 use Rattle.runner.proofs.RunRefusals.{judge-refused, Judged, judge-accepted, screen-full, screen-room, no-screen}
 use Rattle.runner.proofs.RunRefusals.{by-file, by-screen, by-sizes, by-room, run-done}
 use Rattle.runner.proofs.run_by.Goals as goal
-use Rattle.runner.proofs.run_by.Goals.{Else-answers-most, Else-number-ne0, Else-order_of-m, Joined-else-panel, else-panel-via-then-panel+else-records-gt-SCREENFUL, else-panel-via-else-panel}
+use Rattle.runner.proofs.run_by.Goals.{Else-answers-most, Else-number-ne0, Else-order_of-m, Joined-else-panel}
+use Rattle.runner.proofs.run_by.Goals.{else-panel-via-then-panel+else-records-gt-SCREENFUL, else-panel-via-else-panel}
 
 -- past the file's own refusals
 module _ (c : Else-number-ne0) where
@@ -59,7 +58,8 @@ pub returns-then-number-ne0 : goal.returns-then-number-ne0
 returns-then-number-ne0 c =
     let bad = c.if-number-ne0.true in
     let a = c.args in
-    by-file a.panel a.file.now a.budget a.arena.now a.table.now a.answers.now c.judge-judgement.result.number bad (judge-refused c.args.file.now c.judge-judgement.result c.judge-judgement.ensures bad)
+    by-file a.panel a.file.now a.budget a.arena.now a.table.now a.answers.now c.judge-judgement.result.number bad
+    (judge-refused c.args.file.now c.judge-judgement.result c.judge-judgement.ensures bad)
     c.refused.result c.refused.ensures
 
 pub returns-then-records-gt-SCREENFUL : goal.returns-then-records-gt-SCREENFUL
@@ -67,7 +67,8 @@ returns-then-records-gt-SCREENFUL c =
     let g = good (goal.at.returns-then-records-gt-SCREENFUL c).Else-number-ne0 in
     let a = c.args in
     by-screen a.panel a.file.now a.budget a.arena.now a.table.now a.answers.now g.judged
-    (screen-full c.args.panel c.args.file.now c.judge-judgement.result.count g.count c.if-panel.true (lt-ltb screenful c.judge-judgement.result.count c.if-records-gt-SCREENFUL.true))
+    (screen-full c.args.panel c.args.file.now c.judge-judgement.result.count g.count c.if-panel.true
+    (lt-ltb screenful c.judge-judgement.result.count c.if-records-gt-SCREENFUL.true))
     c.refused-then-records-gt-SCREENFUL.result c.refused-then-records-gt-SCREENFUL.ensures
 
 pub order_of-requires : goal.order_of-requires
@@ -78,14 +79,16 @@ returns-then-order_of-m c =
     let g = good (goal.at.returns-then-order_of-m c).Else-number-ne0 in
     let wrong = order_other _ c.judge-judgement.result.size _ _ c.order_of.ensures c.if-order_of-m.true in
     let a = c.args in
-    by-sizes a.panel a.file.now a.budget a.arena.now a.table.now a.answers.now g.judged (listed (goal.at.returns-then-order_of-m c).Joined-else-panel g) (rw g.size wrong)
+    by-sizes a.panel a.file.now a.budget a.arena.now a.table.now a.answers.now g.judged (listed (goal.at.returns-then-order_of-m c).Joined-else-panel g)
+    (rw g.size wrong)
     c.refused-then-order_of-m.result c.refused-then-order_of-m.ensures
 
 pub returns-then-answers-most : goal.returns-then-answers-most
 returns-then-answers-most c =
     let g = good (goal.at.returns-then-answers-most c).Else-number-ne0 in
     let a = c.args in
-    by-room a.panel a.file.now a.budget a.arena.now a.table.now a.answers.now g.judged (listed (goal.at.returns-then-answers-most c).Joined-else-panel g) (rw g.size (fits (goal.at.returns-then-answers-most c).Else-order_of-m g))
+    by-room a.panel a.file.now a.budget a.arena.now a.table.now a.answers.now g.judged (listed (goal.at.returns-then-answers-most c).Joined-else-panel g)
+    (rw g.size (fits (goal.at.returns-then-answers-most c).Else-order_of-m g))
     (omega (arith, c.if-answers-most.true, c.allowed_by-most.ensures)) c.refused-then-answers-most.result c.refused-then-answers-most.ensures
 
 pub carry_out-requires : goal.carry_out-requires

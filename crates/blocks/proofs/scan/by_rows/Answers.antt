@@ -1,4 +1,5 @@
-use Rattle.std.proofs.Common.{◌≡◌, ℕ, ◌+◌, ◌-◌, ◌*◌, ◌/◌, ◌%◌, ◌^◌, ◌<◌, ◌≤◌, Bool, true, false, eqb, List, length, get_or, take, drop, sym, refl, ap, ◌∙◌, true≢false, add-zero, add-sub_of_le, arith, pow_pos, below_none, le-leb}
+use Rattle.std.proofs.Common.{◌≡◌, ℕ, ◌+◌, ◌-◌, ◌*◌, ◌/◌, ◌%◌, ◌^◌, ◌<◌, ◌≤◌, Bool, true, false, eqb, List, length, get_or, take, drop, sym, refl, ap, ◌∙◌}
+use Rattle.std.proofs.Common.{true≢false, add-zero, add-sub_of_le, arith, pow_pos, below_none, le-leb}
 use borrow.Author.Tests.{lt-leb}
 use Rattle.blocks.specs.Blocks.{floor}
 use Rattle.blocks.specs.Placing.{all_free}
@@ -43,7 +44,14 @@ module _ (c : Then-e-t) where
   row = take (c.scan.i + 16 - c.scan.i) (drop c.scan.i c.args.table.now)
 
   sixteen : length row ≡ 16
-  sixteen = part_length c.args.table.now c.scan.i 16 ((let h : c.scan.i + 16 ≤ length c.args.table.now = omega (arith, whole-rows (c.args.m - c.args.t) (omega (arith, (let h : c.args.t + 4 ≤ c.args.m = c.requires.1 in h))), (let h : length c.args.table.now ≡ 2 ^ (c.args.m - c.args.t) = c.requires.3 in h), c.scan.invariant.2, c.scan-test.true) in h))
+  sixteen =
+      part_length c.args.table.now c.scan.i 16 ((let h : c.scan.i + 16 ≤ length c.args.table.now = omega (
+        arith,
+        whole-rows (c.args.m - c.args.t) (omega (arith, (let h : c.args.t + 4 ≤ c.args.m = c.requires.1 in h))),
+        (let h : length c.args.table.now ≡ 2 ^ (c.args.m - c.args.t) = c.requires.3 in h),
+        c.scan.invariant.2,
+        c.scan-test.true,
+      ) in h))
 
   entry_at : (j : ℕ) → j < 16 → get_or row j 0 ≡ get_or c.args.table.now (c.scan.i + j) 0
   entry_at = part-entry c.args.table.now c.scan.i 16
@@ -56,7 +64,8 @@ module _ (c : Then-e-t) where
   passed-row : damaged_by c.args.t (c.args.t + 4) row ≡ false → (j : ℕ) → c.scan.i ≤ j → j < c.scan.i + 16
       → Good c.args.t c.args.m c.args.table.now j
   passed-row d j lo hi =
-      let good = row-good c.args.t c.args.m c.args.table.now row c.scan.i sixteen c.scan.invariant.2 entry_at (let h : c.args.t + 4 ≤ c.args.m = c.requires.1 in h) d in
+      let good = row-good c.args.t c.args.m c.args.table.now row c.scan.i sixteen c.scan.invariant.2 entry_at
+      (let h : c.args.t + 4 ≤ c.args.m = c.requires.1 in h) d in
       rw (add-sub_of_le lo) at (good (j - c.scan.i) (omega arith))
 
   found-damage : damaged_by c.args.t (c.args.t + 4) row ≡ true → true ≡ damaged_by c.args.t c.args.m c.args.table.now
@@ -66,7 +75,13 @@ module _ (c : Then-e-t) where
       go true q = refl
       go false q =
           let u = row-undamaged c.args.t c.args.m c.args.table.now row c.scan.i sixteen c.scan.invariant.2 entry_at in
-          absurd (true≢false (sym d ∙ u first ((let h : c.scan.i + 16 ≤ length c.args.table.now = omega (arith, whole-rows (c.args.m - c.args.t) (omega (arith, (let h : c.args.t + 4 ≤ c.args.m = c.requires.1 in h))), (let h : length c.args.table.now ≡ 2 ^ (c.args.m - c.args.t) = c.requires.3 in h), c.scan.invariant.2, c.scan-test.true) in h)) q))
+          absurd (true≢false (sym d ∙ u first ((let h : c.scan.i + 16 ≤ length c.args.table.now = omega (
+            arith,
+            whole-rows (c.args.m - c.args.t) (omega (arith, (let h : c.args.t + 4 ≤ c.args.m = c.requires.1 in h))),
+            (let h : length c.args.table.now ≡ 2 ^ (c.args.m - c.args.t) = c.requires.3 in h),
+            c.scan.invariant.2,
+            c.scan-test.true,
+          ) in h)) q))
 
 -- where the block is larger: the entry, its order, and the range round the slot
 module _ (c : Else-m-e) where
@@ -90,7 +105,10 @@ module _ (c : Else-m-e) where
   taken = order-taken entry (λ z. omega (arith, large, says))
 
   ends : floor levels c.scan.i + 2 ^ levels ≤ length c.args.table.now
-  ends = rw ((let h : length c.args.table.now ≡ 2 ^ (c.args.m - c.args.t) = c.requires.3 in h)) (floor-end levels _ c.scan.i (omega (arith, c.if-m-e.false)) (rw ((let h : length c.args.table.now ≡ 2 ^ (c.args.m - c.args.t) = c.requires.3 in h)) at c.scan-test.true))
+  ends =
+      rw ((let h : length c.args.table.now ≡ 2 ^ (c.args.m - c.args.t) = c.requires.3 in h))
+      (floor-end levels _ c.scan.i (omega (arith, c.if-m-e.false))
+      (rw ((let h : length c.args.table.now ≡ 2 ^ (c.args.m - c.args.t) = c.requires.3 in h)) at c.scan-test.true))
 
   rows : 2 ^ levels % 16 ≡ 0
   rows = whole-rows levels (omega (arith, large))
@@ -110,7 +128,16 @@ module _ (c : In-block) where
   slots = c.args.table.now
 
   row_ends : c.block.at + 16 ≤ floor (c.order_in-e.result - c.args.t) c.scan.i + 2 ^ (c.order_in-e.result - c.args.t)
-  row_ends = let inv = c.block.invariant in omega (arith, (let h : 2 ^ (c.order_in-e.result - c.args.t) % 16 ≡ 0 = whole-rows (c.order_in-e.result - c.args.t) (omega (arith, (let h : c.args.t + 4 < c.order_in-e.result = c.if-e-t.false in h))) in h), inv.6, inv.1, inv.2, c.block-test.true)
+  row_ends =
+      let inv = c.block.invariant in omega (
+        arith,
+        (let h : 2 ^ (c.order_in-e.result - c.args.t) % 16 ≡ 0 = whole-rows (c.order_in-e.result - c.args.t)
+            (omega (arith, (let h : c.args.t + 4 < c.order_in-e.result = c.if-e-t.false in h))) in h),
+        inv.6,
+        inv.1,
+        inv.2,
+        c.block-test.true,
+      )
 
   -- what is said of the part is said of the table
   row-alike : all_free (has_entry (take (c.block.at + 16 - c.block.at) (drop c.block.at slots)) (get_or c.args.table.now c.scan.i 0)) 0 16
@@ -144,8 +171,13 @@ scan-smaller-then-e-t c = omega (arith, row_inside (goal.at.scan-smaller-then-e-
 pub scan-preserved-then-e-t : goal.scan-preserved-then-e-t
 scan-preserved-then-e-t c =
     let good = passed-row (goal.at.scan-preserved-then-e-t c).Then-e-t (sym c.row_damaged.ensures ∙ c.if-row_damaged.false) in
-    let inv = c.scan.invariant in
-    (inv.0, row_inside (goal.at.scan-preserved-then-e-t c).In-scan, omega (arith, inv.2), below_both (Good c.args.t c.args.m c.args.table.now) c.scan.i (c.scan.i + 16) (passed (goal.at.scan-preserved-then-e-t c).In-scan) good)
+    let inv = c.scan.invariant in (
+      inv.0,
+      row_inside (goal.at.scan-preserved-then-e-t c).In-scan,
+      omega (arith, inv.2),
+      below_both (Good c.args.t c.args.m c.args.table.now) c.scan.i
+          (c.scan.i + 16) (passed (goal.at.scan-preserved-then-e-t c).In-scan) good,
+    )
 
 pub slots_of-slots-requires : goal.slots_of-slots-requires
 slots_of-slots-requires c = omega arith
@@ -173,7 +205,8 @@ pub slice_bounds-alike-count : goal.slice_bounds-alike-count
 slice_bounds-alike-count c = omega arith
 
 pub slice_bounds-alike-end : goal.slice_bounds-alike-end
-slice_bounds-alike-end c = let end : c.block.at + 16 ≤ length c.args.table.now = omega (arith, row_ends c, ends (goal.at.slice_bounds-alike-end c).Else-m-e) in end
+slice_bounds-alike-end c =
+    let end : c.block.at + 16 ≤ length c.args.table.now = omega (arith, row_ends c, ends (goal.at.slice_bounds-alike-end c).Else-m-e) in end
 
 pub alike-requires : goal.alike-requires
 alike-requires c =
@@ -186,8 +219,10 @@ pub block-preserved : goal.block-preserved
 block-preserved c =
     let inv = c.block.invariant in
     let k = c.block.at in
-    let run = run_at c.args.table.now (get_or c.args.table.now c.scan.i 0) k 16 (sym (row-alike (goal.at.block-preserved c).In-block) ∙ sym c.alike.ensures ∙ c.if-not-alike.false) in
-    let Passed : ℕ → Type 0 = λ j. (c.scan.i / c.slots_of-slots.result * c.slots_of-slots.result) ≤ j → get_or c.args.table.now j 0 ≡ (get_or c.args.table.now c.scan.i 0) in (
+    let run = run_at c.args.table.now (get_or c.args.table.now c.scan.i 0) k 16
+    (sym (row-alike (goal.at.block-preserved c).In-block) ∙ sym c.alike.ensures ∙ c.if-not-alike.false) in
+    let Passed : ℕ → Type 0 = λ j. (c.scan.i / c.slots_of-slots.result * c.slots_of-slots.result) ≤ j
+    → get_or c.args.table.now j 0 ≡ (get_or c.args.table.now c.scan.i 0) in (
       inv.0,
       inv.1,
       inv.2,
@@ -212,13 +247,15 @@ scan-preserved c =
       high = c.if-m-e.false;
       entries = λ k lo hi. inv.7 k (omega (arith, inv.2)) (omega (arith, inv.1));
     } in
-    let block = whole-good c.args.t c.args.m c.args.table.now c.scan.i (get_or c.args.table.now c.scan.i 0) c.order_in-e.result (taken (goal.at.scan-preserved c).Else-m-e) w in
+    let block = whole-good c.args.t c.args.m c.args.table.now c.scan.i (get_or c.args.table.now c.scan.i 0) c.order_in-e.result
+    (taken (goal.at.scan-preserved c).Else-m-e) w in
     let low = floor-le (c.order_in-e.result - c.args.t) c.scan.i in
     let begins = floor-rows (c.order_in-e.result - c.args.t) c.scan.i (omega (arith, large (goal.at.scan-preserved c).Else-m-e)) in (
       inv.0,
       inv.3,
       omega (arith, inv.2, rows (goal.at.scan-preserved c).Else-m-e),
-      below_both (Good c.args.t c.args.m c.args.table.now) c.scan.i _ (passed (goal.at.scan-preserved c).In-scan) (λ j lo hi. block j (omega arith) (omega (arith, inv.2))),
+      below_both (Good c.args.t c.args.m c.args.table.now) c.scan.i _ (passed (goal.at.scan-preserved c).In-scan)
+          (λ j lo hi. block j (omega arith) (omega (arith, inv.2))),
     )
 
 pub returns-after-scan : goal.returns-after-scan
@@ -242,4 +279,6 @@ returns-then-not-alike c =
     let k = c.block.at in
     let differs = sym (row-alike (goal.at.returns-then-not-alike c).In-block) ∙ sym c.alike.ensures ∙ c.if-not-alike.true in
     sym (damaged-at c.args.t c.args.m c.args.table.now c.scan.i (get_or c.args.table.now c.scan.i 0) c.scan-test.true refl
-    (run-bad c.args.t c.args.m c.args.table.now c.scan.i (get_or c.args.table.now c.scan.i 0) c.order_in-e.result k 16 (says (goal.at.returns-then-not-alike c).Else-m-e) (taken (goal.at.returns-then-not-alike c).Else-m-e) (omega (arith, inv.1, inv.4)) (row_ends (goal.at.returns-then-not-alike c).In-block) differs))
+    (run-bad c.args.t c.args.m c.args.table.now c.scan.i (get_or c.args.table.now c.scan.i 0) c.order_in-e.result k 16
+    (says (goal.at.returns-then-not-alike c).Else-m-e) (taken (goal.at.returns-then-not-alike c).Else-m-e) (omega (arith, inv.1, inv.4))
+    (row_ends (goal.at.returns-then-not-alike c).In-block) differs))

@@ -1,4 +1,5 @@
-use Rattle.std.proofs.Common.{◌≡◌, ℕ, ◌+◌, ◌-◌, ◌*◌, ◌/◌, ◌%◌, ◌^◌, ◌<◌, ◌≤◌, true, false, ◌&&◌, leb, List, length, get_or, sym, refl, ap, ◌∙◌, arith, pow_pos, below_none, below_more, leb-true}
+use Rattle.std.proofs.Common.{◌≡◌, ℕ, ◌+◌, ◌-◌, ◌*◌, ◌/◌, ◌%◌, ◌^◌, ◌<◌, ◌≤◌, true, false, ◌&&◌, leb, List, length, get_or, sym, refl, ap, ◌∙◌, arith, pow_pos}
+use Rattle.std.proofs.Common.{below_none, below_more, leb-true}
 use native.Mathlib.Decide.{dec_lt}
 use Rattle.blocks.specs.Blocks.{floor}
 use Rattle.blocks.specs.Tables.{entry_order, damaged_by}
@@ -89,7 +90,16 @@ module _ (c : After-slots_of-slots) where
       → true ≡ damaged_by c.args.t c.args.m c.args.table.now
   torn k lo hi n =
       sym (damaged-at c.args.t c.args.m c.args.table.now c.scan.i (get_or c.args.table.now c.scan.i 0) c.scan-test.true refl
-      (torn-bad c.args.t c.args.m c.args.table.now c.scan.i (get_or c.args.table.now c.scan.i 0) c.order_in-e.result k ((let h : entry_order (get_or c.args.table.now c.scan.i 0) ≡ c.order_in-e.result = sym c.order_in-e.ensures in h)) ((let h : (get_or c.args.table.now c.scan.i 0) ≡ 0 → ⊥ = not_free c.args.t (get_or c.args.table.now c.scan.i 0) (let h : single c.args.t (get_or c.args.table.now c.scan.i 0) ≡ false = sym c.is_single.ensures ∙ c.if-is_single.false in h) in h)) ((let h : c.args.t ≤ c.order_in-e.result = leb-true c.args.t c.order_in-e.result (and_left _ _ (let h : leb c.args.t c.order_in-e.result && leb c.order_in-e.result c.args.m ≡ true = sym c.is_order.ensures ∙ c.if-not-is_order.false in h)) in h)) ((let h : c.order_in-e.result ≤ c.args.m = leb-true c.order_in-e.result c.args.m (and_right (leb c.args.t c.order_in-e.result) _ (let h : leb c.args.t c.order_in-e.result && leb c.order_in-e.result c.args.m ≡ true = sym c.is_order.ensures ∙ c.if-not-is_order.false in h)) in h)) lo hi n))
+      (torn-bad c.args.t c.args.m c.args.table.now c.scan.i (get_or c.args.table.now c.scan.i 0) c.order_in-e.result k
+      ((let h : entry_order (get_or c.args.table.now c.scan.i 0) ≡ c.order_in-e.result = sym c.order_in-e.ensures in h))
+      ((let h : (get_or c.args.table.now c.scan.i 0) ≡ 0 → ⊥ = not_free c.args.t (get_or c.args.table.now c.scan.i 0)
+      (let h : single c.args.t (get_or c.args.table.now c.scan.i 0) ≡ false = sym c.is_single.ensures ∙ c.if-is_single.false in h) in h))
+      ((let h : c.args.t ≤ c.order_in-e.result = leb-true c.args.t c.order_in-e.result
+      (and_left _ _ (let h : leb c.args.t c.order_in-e.result && leb c.order_in-e.result c.args.m ≡ true = sym c.is_order.ensures
+      ∙ c.if-not-is_order.false in h)) in h)) ((let h : c.order_in-e.result ≤ c.args.m = leb-true c.order_in-e.result c.args.m
+      (and_right (leb c.args.t c.order_in-e.result) _
+      (let h : leb c.args.t c.order_in-e.result && leb c.order_in-e.result c.args.m ≡ true = sym c.is_order.ensures ∙ c.if-not-is_order.false in h)) in h)) lo
+      hi n))
 
 -- two slots of it
 module _ (c : Else-table-k) where
@@ -100,7 +110,15 @@ module _ (c : Else-table-k) where
         arith,
         (let h : 2 ^ (c.order_in-e.result - c.args.t) % 2 ≡ 0 = elim (dec_lt c.args.t c.order_in-e.result) [
           | yes l ↦ omega (arith, pow-split 1 (c.order_in-e.result - c.args.t) (omega arith))
-          | no l ↦ absurd (not-slot c.args.t (get_or c.args.table.now c.scan.i 0) (let h : single c.args.t (get_or c.args.table.now c.scan.i 0) ≡ false = sym c.is_single.ensures ∙ c.if-is_single.false in h) ((let h : entry_order (get_or c.args.table.now c.scan.i 0) ≡ c.order_in-e.result = sym c.order_in-e.ensures in h) ∙ omega (arith, (let h : c.args.t ≤ c.order_in-e.result = leb-true c.args.t c.order_in-e.result (and_left _ _ (let h : leb c.args.t c.order_in-e.result && leb c.order_in-e.result c.args.m ≡ true = sym c.is_order.ensures ∙ c.if-not-is_order.false in h)) in h))))
+          | no l ↦ absurd (not-slot c.args.t (get_or c.args.table.now c.scan.i 0)
+              (let h : single c.args.t (get_or c.args.table.now c.scan.i 0) ≡ false = sym c.is_single.ensures ∙ c.if-is_single.false in h)
+              ((let h : entry_order (get_or c.args.table.now c.scan.i 0) ≡ c.order_in-e.result = sym c.order_in-e.ensures in h)
+              ∙ omega (
+                arith,
+                (let h : c.args.t ≤ c.order_in-e.result = leb-true c.args.t c.order_in-e.result
+                    (and_left _ _ (let h : leb c.args.t c.order_in-e.result && leb c.order_in-e.result c.args.m ≡ true = sym c.is_order.ensures
+                    ∙ c.if-not-is_order.false in h)) in h),
+              )))
         ] in h),
         inv.1,
         inv.2,
@@ -122,7 +140,8 @@ scan-smaller-then-is_single c = omega arith
 
 pub scan-preserved-then-is_single : goal.scan-preserved-then-is_single
 scan-preserved-then-is_single c =
-    let one = single-good c.args.t c.args.m c.args.table.now c.scan.i (top-low (goal.at.scan-preserved-then-is_single c).In-scan) (sym c.is_single.ensures ∙ c.if-is_single.true) in
+    let one = single-good c.args.t c.args.m c.args.table.now c.scan.i (top-low (goal.at.scan-preserved-then-is_single c).In-scan)
+    (sym c.is_single.ensures ∙ c.if-is_single.true) in
     (c.scan.invariant.0, omega arith, below_more _ _ (passed (goal.at.scan-preserved-then-is_single c).In-scan) one)
 
 pub slots_of-slots-requires : goal.slots_of-slots-requires
@@ -164,7 +183,8 @@ block-preserved c =
     let inv = c.block.invariant in
     let one = c.if-table-k.false in
     let two = c.if-table-k-2.false in
-    let Passed : ℕ → Type 0 = λ j. (c.scan.i / c.slots_of-slots.result * c.slots_of-slots.result) ≤ j → get_or c.args.table.now j 0 ≡ (get_or c.args.table.now c.scan.i 0) in
+    let Passed : ℕ → Type 0 = λ j. (c.scan.i / c.slots_of-slots.result * c.slots_of-slots.result) ≤ j
+    → get_or c.args.table.now j 0 ≡ (get_or c.args.table.now c.scan.i 0) in
     let both = below_more Passed (c.block.k + 1) (below_more Passed c.block.k inv.7 (λ _. one)) (λ _. two) in
     (inv.0, inv.1, inv.2, inv.3, omega arith, omega (arith, pair (goal.at.block-preserved c).Else-table-k), omega arith, λ j l. both j (omega arith))
 
@@ -182,9 +202,14 @@ scan-preserved c =
       high = high-order (goal.at.scan-preserved c).Else-not-is_order;
       entries = λ k lo hi. inv.7 k (omega (arith, inv.2)) (omega (arith, inv.1));
     } in
-    let block = whole-good c.args.t c.args.m c.args.table.now c.scan.i (get_or c.args.table.now c.scan.i 0) c.order_in-e.result (taken (goal.at.scan-preserved c).Else-not-is_order) w in
-    let low = floor-le (c.order_in-e.result - c.args.t) c.scan.i in
-    (inv.0, inv.3, below_both (Good c.args.t c.args.m c.args.table.now) c.scan.i _ (passed (goal.at.scan-preserved c).In-scan) (λ j lo hi. block j (omega arith) (omega (arith, inv.2))))
+    let block = whole-good c.args.t c.args.m c.args.table.now c.scan.i (get_or c.args.table.now c.scan.i 0) c.order_in-e.result
+    (taken (goal.at.scan-preserved c).Else-not-is_order) w in
+    let low = floor-le (c.order_in-e.result - c.args.t) c.scan.i in (
+      inv.0,
+      inv.3,
+      below_both (Good c.args.t c.args.m c.args.table.now) c.scan.i _ (passed (goal.at.scan-preserved c).In-scan)
+          (λ j lo hi. block j (omega arith) (omega (arith, inv.2))),
+    )
 
 pub returns-after-scan : goal.returns-after-scan
 returns-after-scan c = c.scan.invariant.0 ∙ sym (undamaged _ _ _ (λ j l. c.scan.invariant.2 j (omega arith)))
@@ -203,4 +228,5 @@ returns-then-table-k c =
 pub returns-then-table-k-2 : goal.returns-then-table-k-2
 returns-then-table-k-2 c =
     let inv = c.block.invariant in
-    torn (goal.at.returns-then-table-k-2 c).After-slots_of-slots (c.block.k + 1) (omega (arith, inv.1, inv.4)) (omega (arith, inv.2, pair (goal.at.returns-then-table-k-2 c).Else-table-k)) c.if-table-k-2.true
+    torn (goal.at.returns-then-table-k-2 c).After-slots_of-slots (c.block.k + 1) (omega (arith, inv.1, inv.4))
+    (omega (arith, inv.2, pair (goal.at.returns-then-table-k-2 c).Else-table-k)) c.if-table-k-2.true

@@ -7,7 +7,9 @@ use Rattle.blocks.proofs.Tables.{Good}
 use Rattle.blocks.proofs.scan.by_slots.Given as goal
 
 abbrev pub invariant-block : goal.invariant-block
-invariant-block l = (l.found ≡ false) × (l.from ≡ floor (l.e - l.t) l.i) × (l.to ≡ floor (l.e - l.t) l.i + 2 ^ (l.e - l.t)) × (l.to ≤ length l.table) × (l.from ≤ l.k) × (l.k ≤ l.to)
+invariant-block l =
+    (l.found ≡ false) × (l.from ≡ floor (l.e - l.t) l.i) × (l.to ≡ floor (l.e - l.t) l.i + 2 ^ (l.e - l.t)) × (l.to ≤ length l.table) × (l.from ≤ l.k)
+    × (l.k ≤ l.to)
     × ((l.k - l.from) % 2 ≡ 0) × ((j : ℕ) → j < l.k → l.from ≤ j → get_or l.table j 0 ≡ get_or l.table l.i 0)
 
 abbrev pub decreases-block : goal.decreases-block

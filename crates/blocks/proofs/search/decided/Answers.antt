@@ -22,7 +22,10 @@ module _ (c : Else-bits-size_of) where
   some = ne_eqb c.args.bits 0 c.if-bits-eq0.false
 
   not-all : eqb c.args.bits (2 ^ (2 ^ (c.args.k - c.args.t)) - 1) ≡ false
-  not-all = ne_eqb _ _ (λ z. c.if-bits-size_of.false (z ∙ sym ((let h : c.size_of.result - 1 ≡ 2 ^ (2 ^ (c.args.k - c.args.t)) - 1 = ap (λ (x : ℕ). x - 1) (c.size_of.ensures ∙ ap (λ (x : ℕ). 2 ^ x) c.size_of-n.ensures) in h))))
+  not-all =
+      ne_eqb _ _ (λ z. c.if-bits-size_of.false (z ∙ sym
+      ((let h : c.size_of.result - 1 ≡ 2 ^ (2 ^ (c.args.k - c.args.t)) - 1 = ap (λ (x : ℕ). x - 1)
+      (c.size_of.ensures ∙ ap (λ (x : ℕ). 2 ^ x) c.size_of-n.ensures) in h))))
 
 pub returns-then-bits-eq0 : goal.returns-then-bits-eq0
 returns-then-bits-eq0 c = rw (eq-eqb c.args.bits 0 c.if-bits-eq0.true)

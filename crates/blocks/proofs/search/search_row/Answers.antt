@@ -41,7 +41,9 @@ pub free_bits-bits-requires : goal.free_bits-bits-requires
 free_bits-bits-requires c = omega (arith, slots (goal.at.free_bits-bits-requires c).Start, few (goal.at.free_bits-bits-requires c).Start)
 
 pub returns-then-found-ne-UNDECIDED : goal.returns-then-found-ne-UNDECIDED
-returns-then-found-ne-UNDECIDED c s r = (verdict (goal.at.returns-then-found-ne-UNDECIDED c).After-decided-found).answer c.if-found-ne-UNDECIDED.true (free_in s) (bits-of-table (goal.at.returns-then-found-ne-UNDECIDED c).After-free_bits-bits s r)
+returns-then-found-ne-UNDECIDED c s r =
+    (verdict (goal.at.returns-then-found-ne-UNDECIDED c).After-decided-found).answer c.if-found-ne-UNDECIDED.true (free_in s)
+    (bits-of-table (goal.at.returns-then-found-ne-UNDECIDED c).After-free_bits-bits s r)
 
 pub search_bits-requires : goal.search_bits-requires
 search_bits-requires c =

@@ -39,7 +39,8 @@ row_is-requires c = part_length c.args.part.now c.loop-i.i 16 (omega arith)
 pub returns-then-not-row_is : goal.returns-then-not-row_is
 returns-then-not-row_is c =
     let l = c.loop-i in
-    let other = row-stop (as_free c.args.part.now (eqb c.args.x 0)) 0 l.i 16 (length c.args.part.now) (omega arith) (sym (row (goal.at.returns-then-not-row_is c).After-row_is) ∙ c.if-not-row_is.true) in
+    let other = row-stop (as_free c.args.part.now (eqb c.args.x 0)) 0 l.i 16 (length c.args.part.now) (omega arith)
+    (sym (row (goal.at.returns-then-not-row_is c).After-row_is) ∙ c.if-not-row_is.true) in
     rw (small (goal.at.returns-then-not-row_is c).After-row_is) (sym (l.invariant.2 ∙ other))
 
 pub loop-i-smaller : goal.loop-i-smaller
@@ -47,8 +48,12 @@ loop-i-smaller c = omega arith
 
 pub loop-i-preserved : goal.loop-i-preserved
 loop-i-preserved c =
-    let l = c.loop-i in
-    (omega arith, omega arith, l.invariant.2 ∙ row_step _ 0 l.i 16 _ (omega arith) (sym (row (goal.at.loop-i-preserved c).After-row_is) ∙ c.if-not-row_is.false))
+    let l = c.loop-i in (
+      omega arith,
+      omega arith,
+      l.invariant.2 ∙ row_step _ 0 l.i 16 _ (omega arith)
+          (sym (row (goal.at.loop-i-preserved c).After-row_is) ∙ c.if-not-row_is.false),
+    )
 
 pub returns : goal.returns
 returns c =

@@ -5,7 +5,9 @@ use Rattle.blocks.specs.Placing.{all_free}
 use Rattle.blocks.proofs.search.uniform.Given as goal
 
 abbrev pub invariant-loop-i : goal.invariant-loop-i
-invariant-loop-i l = (l.i ≤ length l.part) × (l.i % 16 ≡ 0) × (all_free (as_free l.part (eqb l.x 0)) 0 (length l.part) ≡ all_free (as_free l.part (eqb l.x 0)) (0 + l.i) (length l.part - l.i))
+invariant-loop-i l =
+    (l.i ≤ length l.part) × (l.i % 16 ≡ 0) × (all_free (as_free l.part (eqb l.x 0)) 0 (length l.part) ≡ all_free (as_free l.part (eqb l.x 0)) (0 + l.i)
+    (length l.part - l.i))
 
 abbrev pub decreases-loop-i : goal.decreases-loop-i
 decreases-loop-i l = length l.part - l.i

@@ -23,7 +23,9 @@ pub damaged-requires : goal.damaged-requires
 damaged-requires c = c.requires c.if-m-eq0.false
 
 pub returns-then-damaged : goal.returns-then-damaged
-returns-then-damaged c = rw (ordered (goal.at.returns-then-damaged c).Else-m-eq0, accepted (goal.at.returns-then-damaged c).Else-n-ne0, sym c.damaged.ensures ∙ c.if-damaged.true)
+returns-then-damaged c =
+    rw (ordered (goal.at.returns-then-damaged c).Else-m-eq0, accepted (goal.at.returns-then-damaged c).Else-n-ne0, sym c.damaged.ensures ∙ c.if-damaged.true)
 
 pub returns-else-damaged : goal.returns-else-damaged
-returns-else-damaged c = rw (ordered (goal.at.returns-else-damaged c).Else-m-eq0, accepted (goal.at.returns-else-damaged c).Else-n-ne0, sym c.damaged.ensures ∙ c.if-damaged.false)
+returns-else-damaged c =
+    rw (ordered (goal.at.returns-else-damaged c).Else-m-eq0, accepted (goal.at.returns-else-damaged c).Else-n-ne0, sym c.damaged.ensures ∙ c.if-damaged.false)

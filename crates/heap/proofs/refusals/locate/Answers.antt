@@ -30,14 +30,19 @@ module _ (c : After-is_outside) where
       ∙ outside-from-zero a.m (sought a.t a.p)
 
 pub returns-then-is_outside : goal.returns-then-is_outside
-returns-then-is_outside c = located-outside ((heap_view c.args.t c.args.m (heap_of [] c.args.table.now))) c.args.p (sym (told (goal.at.returns-then-is_outside c).After-is_outside) ∙ c.if-is_outside.true)
+returns-then-is_outside c =
+    located-outside ((heap_view c.args.t c.args.m (heap_of [] c.args.table.now))) c.args.p
+    (sym (told (goal.at.returns-then-is_outside c).After-is_outside) ∙ c.if-is_outside.true)
 
 pub returns-else-is_outside : goal.returns-else-is_outside
 returns-else-is_outside c =
-    located-free ((heap_view c.args.t c.args.m (heap_of [] c.args.table.now))) c.args.p (sym (told (goal.at.returns-else-is_outside c).After-is_outside) ∙ c.if-is_outside.false) (sym (referent (goal.at.returns-else-is_outside c).After-referent_in) ∙ c.in-Missing.is)
+    located-free ((heap_view c.args.t c.args.m (heap_of [] c.args.table.now))) c.args.p
+    (sym (told (goal.at.returns-else-is_outside c).After-is_outside) ∙ c.if-is_outside.false)
+    (sym (referent (goal.at.returns-else-is_outside c).After-referent_in) ∙ c.in-Missing.is)
 
 pub returns-in-Found : goal.returns-in-Found
 returns-in-Found c =
     let a = c.args in
     let f = sym (referent (goal.at.returns-in-Found c).After-referent_in) ∙ c.in-Found.is in
-    located-found ((heap_view c.args.t c.args.m (heap_of [] c.args.table.now))) a.p (found_inside a.t a.m a.table.now c.requires.3 c.requires.4 (sought a.t a.p) _ _ f) f
+    located-found ((heap_view c.args.t c.args.m (heap_of [] c.args.table.now))) a.p
+    (found_inside a.t a.m a.table.now c.requires.3 c.requires.4 (sought a.t a.p) _ _ f) f

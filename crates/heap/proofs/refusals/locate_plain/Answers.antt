@@ -17,11 +17,15 @@ module _ (c : After-is_marked) where
   mark b h = sym c.is_marked.ensures ∙ h
 
 pub returns-then-is_marked : goal.returns-then-is_marked
-returns-then-is_marked c = block-by-mark ((heap_view c.args.t c.args.m (heap_of [] c.args.table.now))) c.args.p (block (goal.at.returns-then-is_marked c).After-is_marked) true (mark (goal.at.returns-then-is_marked c).After-is_marked true c.if-is_marked.true)
+returns-then-is_marked c =
+    block-by-mark ((heap_view c.args.t c.args.m (heap_of [] c.args.table.now))) c.args.p (block (goal.at.returns-then-is_marked c).After-is_marked) true
+    (mark (goal.at.returns-then-is_marked c).After-is_marked true c.if-is_marked.true)
 
 pub returns-in-Refused : goal.returns-in-Refused
 returns-in-Refused c =
     refused-stays ((heap_view c.args.t c.args.m (heap_of [] c.args.table.now))) c.args.p (sym c.locate.ensures ∙ c.in-Refused.is)
 
 pub returns-else-is_marked : goal.returns-else-is_marked
-returns-else-is_marked c = block-by-mark ((heap_view c.args.t c.args.m (heap_of [] c.args.table.now))) c.args.p (block (goal.at.returns-else-is_marked c).After-is_marked) false (mark (goal.at.returns-else-is_marked c).After-is_marked false c.if-is_marked.false)
+returns-else-is_marked c =
+    block-by-mark ((heap_view c.args.t c.args.m (heap_of [] c.args.table.now))) c.args.p (block (goal.at.returns-else-is_marked c).After-is_marked) false
+    (mark (goal.at.returns-else-is_marked c).After-is_marked false c.if-is_marked.false)

@@ -12,4 +12,5 @@ returns-in-2 c = rw c.in-2.is
 
 pub returns-in_default : goal.returns-in_default
 returns-in_default c =
-    rw (width_four c.args.w c.requires c.in_default.in_default-own.rest.0.1 c.in_default.in_default-own.rest.1) (sym (lt-leb 4294967296 c.args.v c.ranges.v.fits))
+    rw (width_four c.args.w c.requires c.in_default.in_default-own.rest.0.1 c.in_default.in_default-own.rest.1)
+    (sym (lt-leb 4294967296 c.args.v c.ranges.v.fits))

@@ -17,6 +17,7 @@ returns-in-Refused c =
 pub returns-after-passes : goal.returns-after-passes
 returns-after-passes c =
     let b : c.if-passes.accepted ≡ bit c.passes.result =
-    elim c.if-passes.branch [ then-passes w ↦ w.accepted-is ∙ ap bit (sym w.if-passes.true) | else-passes w ↦ w.accepted-is ∙ ap bit (sym w.if-passes.false) ] in
+    elim c.if-passes.branch [ then-passes w ↦ w.accepted-is ∙ ap bit (sym w.if-passes.true) | else-passes w ↦ w.accepted-is ∙ ap bit (sym w.if-passes.false) ]
+    in
     check-found c.requires _ _ c.locate_plain.ensures c.in-Inside.is c.passes.ensures.by_bits
     (c.accepted.ensures ∙ ap (answer 0) b)

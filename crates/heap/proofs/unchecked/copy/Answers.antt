@@ -4,7 +4,6 @@
 use Rattle.std.proofs.Common.{◌≡◌, ℕ, min, max, false, [], sym, ap, ◌∙◌, ap₂, arith}
 use Rattle.blocks.specs.Blocks.{left_in}
 use Rattle.blocks.specs.Tables.{locked_in}
-use Rattle.blocks.specs.declared.Referent.{Referent}
 use Rattle.blocks.specs.declared.Referent.TheVariants.{Found}
 use Rattle.heap.specs.Heaps.{heap_of, heap_view}
 use Rattle.heap.specs.Inner.{located_plain, number_in}
@@ -21,9 +20,6 @@ module _ (c : In-Refused) where
 
 -- where it leads to a block
 module _ (c : In-Inside) where
-  abbrev target : Referent
-  target = Found c.in-Inside.s c.in-Inside.e
-
   found : (located_plain (heap_view c.args.t c.args.m (heap_of [] c.args.table.now)) c.args.p) ≡ Inside c.in-Inside.s c.in-Inside.e
   found = sym c.locate_plain.ensures ∙ c.in-Inside.is
 
@@ -34,9 +30,6 @@ module _ (c : In-Refused-locate_plain) where
 
 -- or leads to a block as well
 module _ (c : In-Inside-locate_plain) where
-  abbrev source : Referent
-  source = Found c.in-Inside-locate_plain.z c.in-Inside-locate_plain.k
-
   to-target : let a = c.args in
       Led a.t a.m (Copy a.p a.q a.n) a.arena.now a.table.now a.p c.in-Inside.s c.in-Inside.e
   to-target = led c.requires _ c.locate_plain.ensures c.in-Inside.is
@@ -55,7 +48,8 @@ module _ (c : After-least-c) where
   abbrev count : ℕ
   count = c.least-c.result
 
-  counted : count ≡ min c.args.n (min (left_in (Found c.in-Inside.s c.in-Inside.e) c.args.p) (left_in (Found c.in-Inside-locate_plain.z c.in-Inside-locate_plain.k) c.args.q))
+  counted : count ≡ min c.args.n (min (left_in (Found c.in-Inside.s c.in-Inside.e) c.args.p)
+      (left_in (Found c.in-Inside-locate_plain.z c.in-Inside-locate_plain.k) c.args.q))
   counted =
       c.least-c.ensures
       ∙ ap (min c.args.n) (c.least.ensures ∙ ap₂ min c.left_in.ensures c.left_in-in-Inside-locate_plain.ensures)
@@ -68,7 +62,13 @@ returns-in-Refused c =
 
 pub returns-in-Refused-locate_plain : goal.returns-in-Refused-locate_plain
 returns-in-Refused-locate_plain c =
-    both-refused c.requires (omega (arith, ap number_in (found (goal.at.returns-in-Refused-locate_plain c).In-Inside), ap number_in (refusal-2 (goal.at.returns-in-Refused-locate_plain c).In-Refused-locate_plain))) c.args.q _ (refusal-2 (goal.at.returns-in-Refused-locate_plain c).In-Refused-locate_plain) (omega arith)
+    both-refused c.requires (omega (
+      arith,
+      ap number_in (found (goal.at.returns-in-Refused-locate_plain c).In-Inside),
+      ap number_in
+          (refusal-2 (goal.at.returns-in-Refused-locate_plain c).In-Refused-locate_plain),
+    )) c.args.q _
+    (refusal-2 (goal.at.returns-in-Refused-locate_plain c).In-Refused-locate_plain) (omega arith)
     c.refused-in-Refused-locate_plain.ensures
 
 pub is_locked-requires : goal.is_locked-requires
@@ -78,7 +78,9 @@ is_locked-requires c =
 
 pub returns-then-is_locked : goal.returns-then-is_locked
 returns-then-is_locked c =
-    locked-refused (to-target (goal.at.returns-then-is_locked c).In-Inside-locate_plain) (copy-last c.requires (to-target (goal.at.returns-then-is_locked c).In-Inside-locate_plain).found (to-source (goal.at.returns-then-is_locked c).In-Inside-locate_plain).found) (sym c.is_locked.ensures ∙ c.if-is_locked.true)
+    locked-refused (to-target (goal.at.returns-then-is_locked c).In-Inside-locate_plain)
+    (copy-last c.requires (to-target (goal.at.returns-then-is_locked c).In-Inside-locate_plain).found
+    (to-source (goal.at.returns-then-is_locked c).In-Inside-locate_plain).found) (sym c.is_locked.ensures ∙ c.if-is_locked.true)
     c.refused-then-is_locked.ensures
 
 pub left_in-requires : goal.left_in-requires
@@ -95,11 +97,15 @@ offset-requires-in-Inside-locate_plain c = at_base (to-source (goal.at.offset-re
 
 pub copy-requires : goal.copy-requires
 copy-requires c = (
-  room (to-target (goal.at.copy-requires c).In-Inside-locate_plain) c.offset.ensures c.least-c.result (omega (arith, counted (goal.at.copy-requires c).After-least-c)),
-  room (to-source (goal.at.copy-requires c).In-Inside-locate_plain) c.offset-in-Inside-locate_plain.ensures c.least-c.result (omega (arith, counted (goal.at.copy-requires c).After-least-c)),
+  room (to-target (goal.at.copy-requires c).In-Inside-locate_plain) c.offset.ensures c.least-c.result
+      (omega (arith, counted (goal.at.copy-requires c).After-least-c)),
+  room (to-source (goal.at.copy-requires c).In-Inside-locate_plain) c.offset-in-Inside-locate_plain.ensures c.least-c.result
+      (omega (arith, counted (goal.at.copy-requires c).After-least-c)),
 )
 
 pub returns-else-is_locked : goal.returns-else-is_locked
 returns-else-is_locked c =
-    copy_done (to-target (goal.at.returns-else-is_locked c).In-Inside-locate_plain) (to-source (goal.at.returns-else-is_locked c).In-Inside-locate_plain) (unlocked (goal.at.returns-else-is_locked c).Else-is_locked) (counted (goal.at.returns-else-is_locked c).After-least-c) c.offset.ensures c.offset-in-Inside-locate_plain.ensures
+    copy_done (to-target (goal.at.returns-else-is_locked c).In-Inside-locate_plain) (to-source (goal.at.returns-else-is_locked c).In-Inside-locate_plain)
+    (unlocked (goal.at.returns-else-is_locked c).Else-is_locked) (counted (goal.at.returns-else-is_locked c).After-least-c) c.offset.ensures
+    c.offset-in-Inside-locate_plain.ensures
     c.copy.ensures c.accepted.ensures

@@ -25,7 +25,8 @@ is_locked-requires c =
 
 pub returns-then-is_locked : goal.returns-then-is_locked
 returns-then-is_locked c =
-    locked-refused (home (goal.at.returns-then-is_locked c).In-Inside) (fill-last (home (goal.at.returns-then-is_locked c).In-Inside)) (sym c.is_locked.ensures ∙ c.if-is_locked.true) c.refused-then-is_locked.ensures
+    locked-refused (home (goal.at.returns-then-is_locked c).In-Inside) (fill-last (home (goal.at.returns-then-is_locked c).In-Inside))
+    (sym c.is_locked.ensures ∙ c.if-is_locked.true) c.refused-then-is_locked.ensures
 
 pub left_in-requires : goal.left_in-requires
 left_in-requires c = left-asks (home (goal.at.left_in-requires c).In-Inside)
@@ -44,5 +45,6 @@ returns-in-Refused c =
 
 pub returns-else-is_locked : goal.returns-else-is_locked
 returns-else-is_locked c =
-    fill_done (home (goal.at.returns-else-is_locked c).In-Inside) (unlocked (goal.at.returns-else-is_locked c).Else-is_locked) c.left_in.ensures c.least-c.ensures c.offset.ensures
+    fill_done (home (goal.at.returns-else-is_locked c).In-Inside) (unlocked (goal.at.returns-else-is_locked c).Else-is_locked) c.left_in.ensures
+    c.least-c.ensures c.offset.ensures
     c.fill.ensures c.accepted.ensures

@@ -59,9 +59,13 @@ module _ (c : After-size_of) where
   bytes_fit =
       let a = c.args in
       let k = c.in-At.order in
-      let fit = get-bytes a.t a.m a.n a.arena.now a.table.now c.requires c.needed_order-e.result c.needed_order-e.ensures c.in-At.slot k ((let h : place_in (free_in c.args.table.now) c.args.t 0 c.args.m c.needed_order-e.result ≡ At c.in-At.slot c.in-At.order = sym c.find_place.ensures ∙ c.in-At.is in h)) in (
+      let fit = get-bytes a.t a.m a.n a.arena.now a.table.now c.requires c.needed_order-e.result c.needed_order-e.ensures c.in-At.slot k
+      ((let h : place_in (free_in c.args.table.now) c.args.t 0 c.args.m c.needed_order-e.result ≡ At c.in-At.slot c.in-At.order = sym c.find_place.ensures
+      ∙ c.in-At.is in h)) in (
         rw first-is fit,
-        get-small a.t a.m a.n a.arena.now a.table.now c.requires c.needed_order-e.result c.needed_order-e.ensures c.in-At.slot k ((let h : place_in (free_in c.args.table.now) c.args.t 0 c.args.m c.needed_order-e.result ≡ At c.in-At.slot c.in-At.order = sym c.find_place.ensures ∙ c.in-At.is in h)),
+        get-small a.t a.m a.n a.arena.now a.table.now c.requires c.needed_order-e.result c.needed_order-e.ensures c.in-At.slot k
+            ((let h : place_in (free_in c.args.table.now) c.args.t 0 c.args.m c.needed_order-e.result ≡ At c.in-At.slot c.in-At.order = sym c.find_place.ensures
+            ∙ c.in-At.is in h)),
       )
 
 pub needed_order-e-requires : goal.needed_order-e-requires
@@ -112,5 +116,6 @@ returns-in-At c =
     let bytes = ap₂ (λ (i z : ℕ). over a.arena.now i (replicate z 0)) (first-is (goal.at.returns-in-At c).After-size_of) c.size_of-in-At.ensures in
     ap (λ (r : Answer). outcome r c.fill-in-At.new.s c.fill.new.s) c.accepted.ensures
     ∙ get-done a.t a.m a.n a.arena.now a.table.now c.requires c.needed_order-e.result c.needed_order-e.ensures c.in-At.slot
-    c.in-At.order (found (goal.at.returns-in-At c).In-At) (base + (c.in-At.slot * c.size_of.result)) c.fill-in-At.new.s c.fill.new.s (ap (λ (i : ℕ). base + i) (first-is (goal.at.returns-in-At c).After-size_of))
+    c.in-At.order (found (goal.at.returns-in-At c).In-At) (base + (c.in-At.slot * c.size_of.result)) c.fill-in-At.new.s c.fill.new.s
+    (ap (λ (i : ℕ). base + i) (first-is (goal.at.returns-in-At c).After-size_of))
     (c.fill-in-At.ensures ∙ bytes) (entries (goal.at.returns-in-At c).After-fill)

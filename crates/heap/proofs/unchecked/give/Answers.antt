@@ -34,7 +34,8 @@ is_locked-requires c =
 
 pub returns-then-is_locked : goal.returns-then-is_locked
 returns-then-is_locked c =
-    locked-refused (home (goal.at.returns-then-is_locked c).In-Inside) (give-last (home (goal.at.returns-then-is_locked c).In-Inside) c.if-s-p.false) (sym (lock-of (goal.at.returns-then-is_locked c).After-is_locked) ∙ c.if-is_locked.true)
+    locked-refused (home (goal.at.returns-then-is_locked c).In-Inside) (give-last (home (goal.at.returns-then-is_locked c).In-Inside) c.if-s-p.false)
+    (sym (lock-of (goal.at.returns-then-is_locked c).After-is_locked) ∙ c.if-is_locked.true)
     c.refused-then-is_locked.ensures
 
 pub offset-requires : goal.offset-requires
@@ -62,5 +63,6 @@ returns-in-Refused c =
 
 pub returns-else-is_locked : goal.returns-else-is_locked
 returns-else-is_locked c =
-    give-done (home (goal.at.returns-else-is_locked c).In-Inside) c.if-s-p.false (unlocked (goal.at.returns-else-is_locked c).Else-is_locked) c.offset.ensures c.slots_of.ensures
+    give-done (home (goal.at.returns-else-is_locked c).In-Inside) c.if-s-p.false (unlocked (goal.at.returns-else-is_locked c).Else-is_locked) c.offset.ensures
+    c.slots_of.ensures
     c.fill.ensures c.accepted.ensures

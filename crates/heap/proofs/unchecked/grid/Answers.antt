@@ -44,7 +44,9 @@ overflow_mul-wide c = omega (arith, product c.wide.result c.wide-in-Inside.resul
 pub returns-then-left_in-wide : goal.returns-then-left_in-wide
 unfolding state_rules
 returns-then-left_in-wide c =
-    short-refused (home (goal.at.returns-then-left_in-wide c).In-Inside) _ _ refl (omega (arith, size_is (goal.at.returns-then-left_in-wide c).After-wide-in-Inside, c.left_in.ensures, c.if-left_in-wide.true)) c.refused-then-left_in-wide.ensures
+    short-refused (home (goal.at.returns-then-left_in-wide c).In-Inside) _ _ refl
+    (omega (arith, size_is (goal.at.returns-then-left_in-wide c).After-wide-in-Inside, c.left_in.ensures, c.if-left_in-wide.true))
+    c.refused-then-left_in-wide.ensures
 
 pub overflow_mul-wide-in-Inside : goal.overflow_mul-wide-in-Inside
 overflow_mul-wide-in-Inside c = omega (arith, rows_on c)
@@ -53,7 +55,13 @@ pub overflow_add-p : goal.overflow_add-p
 overflow_add-p c = omega (arith, low c, rows_on c)
 
 pub overflow_add-p-in-Inside : goal.overflow_add-p-in-Inside
-overflow_add-p-in-Inside c = omega (arith, low (goal.at.overflow_add-p-in-Inside c).After-wide-in-Inside-3, rows_on (goal.at.overflow_add-p-in-Inside c).After-wide-in-Inside-3, c.wide-in-Inside-4.ensures)
+overflow_add-p-in-Inside c =
+    omega (
+      arith,
+      low (goal.at.overflow_add-p-in-Inside c).After-wide-in-Inside-3,
+      rows_on (goal.at.overflow_add-p-in-Inside c).After-wide-in-Inside-3,
+      c.wide-in-Inside-4.ensures,
+    )
 
 pub returns-in-Refused : goal.returns-in-Refused
 unfolding state_rules
@@ -63,5 +71,6 @@ returns-in-Refused c =
 pub returns-else-left_in-wide : goal.returns-else-left_in-wide
 returns-else-left_in-wide c =
     let sum = ap₂ (λ (x y : ℕ). c.args.p + x + y) (rows_are (goal.at.returns-else-left_in-wide c).After-wide-in-Inside-3) c.wide-in-Inside-4.ensures in
-    grid-done (omega (arith, size_is (goal.at.returns-else-left_in-wide c).After-wide-in-Inside, c.left_in.ensures, c.if-left_in-wide.false)) (home (goal.at.returns-else-left_in-wide c).In-Inside)
+    grid-done (omega (arith, size_is (goal.at.returns-else-left_in-wide c).After-wide-in-Inside, c.left_in.ensures, c.if-left_in-wide.false))
+    (home (goal.at.returns-else-left_in-wide c).In-Inside)
     (rw (← sum) c.accepted.ensures)

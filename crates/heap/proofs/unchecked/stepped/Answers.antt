@@ -5,7 +5,8 @@ use Rattle.blocks.specs.Pointers.{wrapped_sum, check_bits}
 use Rattle.heap.specs.Inner.{Holding}
 use Rattle.heap.proofs.Stepping.{reach-small, end_low, stepped-inside, stepped-before, stepped-past, stepped-beyond}
 use Rattle.heap.proofs.unchecked.stepped.Goals as goal
-use Rattle.heap.proofs.unchecked.stepped.Goals.{After-size_of-reach, else-s-reach-via-then-s-reach+else-r-s, else-s-reach-via-else-s-reach, else-end-r-via-then-end-r+else-r-end, else-end-r-via-else-end-r}
+use Rattle.heap.proofs.unchecked.stepped.Goals.{After-size_of-reach, else-s-reach-via-then-s-reach+else-r-s, else-s-reach-via-else-s-reach}
+use Rattle.heap.proofs.unchecked.stepped.Goals.{else-end-r-via-then-end-r+else-r-end, else-end-r-via-else-end-r}
 
 pub returns-then-passes : goal.returns-then-passes
 returns-then-passes c =
@@ -44,7 +45,8 @@ overflow_add-r c = omega (arith, end (goal.at.overflow_add-r c).After-size_of-re
 
 pub returns-then-r-s : goal.returns-then-r-s
 returns-then-r-s c =
-    c.accepted-then-r-s.ensures ∙ stepped-before _ _ _ _ _ _ _ (held (goal.at.returns-then-r-s c).After-size_of-reach) (sum (goal.at.returns-then-r-s c).After-size_of-reach) (fails (goal.at.returns-then-r-s c).After-size_of-reach) (omega arith) (omega (arith, ltb-true))
+    c.accepted-then-r-s.ensures ∙ stepped-before _ _ _ _ _ _ _ (held (goal.at.returns-then-r-s c).After-size_of-reach)
+    (sum (goal.at.returns-then-r-s c).After-size_of-reach) (fails (goal.at.returns-then-r-s c).After-size_of-reach) (omega arith) (omega (arith, ltb-true))
 
 pub overflow_add-end-then-end-r : goal.overflow_add-end-then-end-r
 overflow_add-end-then-end-r c = omega (arith, end (goal.at.overflow_add-end-then-end-r c).After-size_of-reach)
@@ -54,12 +56,14 @@ overflow_add-r-then-r-end c = omega (arith, end (goal.at.overflow_add-r-then-r-e
 
 pub returns-then-r-end : goal.returns-then-r-end
 returns-then-r-end c =
-    c.accepted-then-r-end.ensures ∙ stepped-past _ _ _ _ _ _ _ (held (goal.at.returns-then-r-end c).After-size_of-reach) (sum (goal.at.returns-then-r-end c).After-size_of-reach) (fails (goal.at.returns-then-r-end c).After-size_of-reach) (omega arith) (omega (arith, ltb-true))
+    c.accepted-then-r-end.ensures ∙ stepped-past _ _ _ _ _ _ _ (held (goal.at.returns-then-r-end c).After-size_of-reach)
+    (sum (goal.at.returns-then-r-end c).After-size_of-reach) (fails (goal.at.returns-then-r-end c).After-size_of-reach) (omega arith) (omega (arith, ltb-true))
 
 pub returns : goal.returns
 returns c =
     c.refused.ensures
-    ∙ stepped-beyond _ _ _ _ _ _ _ (held (goal.at.returns c).After-size_of-reach) (sum (goal.at.returns c).After-size_of-reach) (fails (goal.at.returns c).After-size_of-reach)
+    ∙ stepped-beyond _ _ _ _ _ _ _ (held (goal.at.returns c).After-size_of-reach) (sum (goal.at.returns c).After-size_of-reach)
+    (fails (goal.at.returns c).After-size_of-reach)
     (λ l. elim c.else-s-reach.branch [
       | else-s-reach-via-then-s-reach+else-r-s w ↦ omega (arith, c.size_of-reach.ensures)
       | else-s-reach-via-else-s-reach w ↦ omega (arith, c.size_of-reach.ensures)

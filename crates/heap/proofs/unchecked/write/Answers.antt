@@ -32,7 +32,8 @@ is_locked-requires c =
 pub returns-then-is_locked : goal.returns-then-is_locked
 unfolding state_rules
 returns-then-is_locked c =
-    locked-refused (home (goal.at.returns-then-is_locked c).In-Inside) (long-first (home (goal.at.returns-then-is_locked c).In-Inside) _ _ refl (omega arith)) (sym c.is_locked.ensures ∙ c.if-is_locked.true)
+    locked-refused (home (goal.at.returns-then-is_locked c).In-Inside) (long-first (home (goal.at.returns-then-is_locked c).In-Inside) _ _ refl (omega arith))
+    (sym c.is_locked.ensures ∙ c.if-is_locked.true)
     c.refused-then-is_locked.ensures
 
 pub offset-requires : goal.offset-requires
@@ -50,4 +51,5 @@ returns-in-Refused c =
 
 pub returns-else-is_locked : goal.returns-else-is_locked
 returns-else-is_locked c =
-    write_done c.offset.ensures (omega arith) (home (goal.at.returns-else-is_locked c).In-Inside) (unlocked (goal.at.returns-else-is_locked c).Else-is_locked) c.write_number.ensures c.accepted.ensures
+    write_done c.offset.ensures (omega arith) (home (goal.at.returns-else-is_locked c).In-Inside) (unlocked (goal.at.returns-else-is_locked c).Else-is_locked)
+    c.write_number.ensures c.accepted.ensures

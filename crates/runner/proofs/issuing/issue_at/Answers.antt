@@ -1,6 +1,6 @@
 -- An arm for each operation n: what it needs of the file is what the row of n asks, and its record is that of the row (`low_of`, `gives`, with a law for each
 -- operation). The last arm is left to grid: an operation of the table that is none of those before.
-use Rattle.std.proofs.Common.{◌≡◌, ℕ, ◌+◌, List, sym, ◌∙◌, ap, subst, arith, rules}
+use Rattle.std.proofs.Common.{◌≡◌, ℕ, List, sym, ◌∙◌, ap, subst, arith, rules}
 use Rattle.takes.specs.Operations.{kinds_of}
 use Rattle.takes.specs.Inner.{record_from}
 use Rattle.takes.specs.declared.Record.{Record}
@@ -107,7 +107,9 @@ pub grid_at-requires : goal.grid_at-requires
 unfolding kinds_of
 grid_at-requires c = record {
   inside = rw (last_arm c.args.op c.requires.listed (search rules)) at c.requires.inside;
-  low_registers = low_of c.args.file.now c.args.at c.args.op 13 _ (last_arm c.args.op c.requires.listed (search rules)) (grid-is c.args.file.now c.args.at) c.requires.low_registers;
+  low_registers =
+      low_of c.args.file.now c.args.at c.args.op 13 _ (last_arm c.args.op c.requires.listed (search rules)) (grid-is c.args.file.now c.args.at)
+      c.requires.low_registers;
 }
 
 pub bounds-file-at : goal.bounds-file-at
@@ -184,7 +186,8 @@ returns-in-9 c =
 
 pub returns-in-10 : goal.returns-in-10
 returns-in-10 c =
-    gives c.args.file.now c.args.at c.args.op 10 _ c.in-10.is (unlock-is c.args.file.now c.args.at) c.args.values.now _ _ c.makes-in-10.ensures c.unlock_at.ensures
+    gives c.args.file.now c.args.at c.args.op 10 _ c.in-10.is (unlock-is c.args.file.now c.args.at) c.args.values.now _ _ c.makes-in-10.ensures
+    c.unlock_at.ensures
 
 pub returns-in-11 : goal.returns-in-11
 returns-in-11 c =
@@ -196,4 +199,5 @@ returns-in-12 c =
 
 pub returns-in_default : goal.returns-in_default
 returns-in_default c =
-    gives c.args.file.now c.args.at c.args.op 13 _ (last_arm c.args.op c.requires.listed (search rules)) (grid-is c.args.file.now c.args.at) c.args.values.now _ _ c.makes-in_default.ensures c.grid_at.ensures
+    gives c.args.file.now c.args.at c.args.op 13 _ (last_arm c.args.op c.requires.listed (search rules)) (grid-is c.args.file.now c.args.at) c.args.values.now
+    _ _ c.makes-in_default.ensures c.grid_at.ensures
