@@ -1,7 +1,7 @@
 /* The heap with baggy bounds and the runner of takes, for the device's C and C++ code.
  *
- * Link with crates/cabi/out/libcabi.a, which `rt lib` in crates/cabi makes for x86-64. It needs memset and memmove
- * of the C library.
+ * Link with crates/cabi/out/libcabi.a, which `rt lib --cpu=x86-64` in crates/cabi makes for any x86-64. It needs
+ * memset and memmove of the C library.
  *
  * Lent buffers. The heap owns no memory: each call is lent the arena (a power of two from 32 to 65,536
  * bytes) and the table (one byte for each 16 bytes of the arena) and keeps neither. A buffer of n bytes

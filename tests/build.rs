@@ -48,7 +48,8 @@ fn library(out: &Path) {
     println!("cargo:rerun-if-changed={}", root.join("crates.txt").display());
     sources(&root.join("crates")).iter().for_each(|path| println!("cargo:rerun-if-changed={}", path.display()));
     let cabi = root.join("crates/cabi");
-    run(Command::new("rt").arg("lib").current_dir(&cabi), "the Rattle toolchain");
+    // For any x86-64: left to itself, rt takes a newer processor, which a library does not look for.
+    run(Command::new("rt").args(["lib", "--cpu=x86-64"]).current_dir(&cabi), "the Rattle toolchain");
     let library = out.join("libcabi.a");
     std::fs::copy(cabi.join("out/libcabi.a"), &library).expect("`rt lib` wrote the library");
     println!("cargo:rustc-link-lib=static=cabi");

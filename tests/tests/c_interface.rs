@@ -186,3 +186,18 @@ mod library {
         }
     }
 }
+
+/// The header promises any x86-64. A library does not look for its processor, so an instruction of a newer one would
+/// stop the device.
+#[cfg(feature = "library")]
+#[test]
+fn library_runs_on_any_x86_64() {
+    const NEWER: [&str; 12] = [
+        "popcnt", "pshufb", "palignr", "ptest", "pextrb", "pextrd", "pextrq", "pinsrb", "pinsrd", "pinsrq", "pblendw", "crc32",
+    ];
+    let code = run(Command::new("objdump").args(["-d", "--no-show-raw-insn", env!("TULIVOMBE_LIBRARY")]));
+    let instructions: Vec<&str> = code.lines().filter_map(|line| line.split_once(":\t")?.1.split_whitespace().next()).collect();
+    assert!(instructions.contains(&"ret"), "objdump shows no code");
+    let newer: Vec<&&str> = instructions.iter().filter(|name| NEWER.contains(name) || name.starts_with('v')).collect();
+    assert!(newer.is_empty(), "instructions of x86-64-v2 and up: {newer:?}");
+}

@@ -1,6 +1,6 @@
 -- What the parts of the code say to each other of the address that is sought, the damage scan and the search by halves. Document 01 has none of it:
--- `referent_in`, `damaged` and `find_place` promise `referent_in`, `damaged_by` and `place_in`. Where `all_free` is given another test than
--- that of free slots, it says that all of the slots pass it.
+-- the functions `referent_in`, `damaged` and `find_place` promise the definitions `referent_in`, `damaged_by` and `place_in`. Where `all_free` is given
+-- another test than that of free slots, it says that all of the slots pass it.
 use Rattle.std.specs.Prelude.{◌≡◌, ℕ, zero, suc, ◌+◌, ◌-◌, ◌*◌, ◌^◌, ◌<◌, ◌≤◌, Bool, false, cond, not, ◌&&◌, ◌||◌, List, length, ℤ, pos, negsuc, ◌==◌, nat_le}
 use Rattle.std.specs.Prelude.{slice_index}
 use Rattle.blocks.specs.Tables.{entry_order, damaged_by, free_in}

@@ -42,7 +42,7 @@ module _ (c : After-size_of) where
   slot_is = c.size_of-slot.ensures
 
   rest-is : c.address_of-q.result % c.size_of-slot.result ≡ address c.args.p % 2 ^ c.args.t
-  rest-is = ap₂ ◌%◌ (let h : c.address_of-q.result ≡ address c.args.p = c.address_of-q.ensures in h) slot_is
+  rest-is = ap₂ ◌%◌ c.address_of-q.ensures slot_is
 
   half_is : c.size_of.result ≡ 2 ^ (c.args.t - 1)
   half_is = c.size_of.ensures
@@ -50,15 +50,7 @@ module _ (c : After-size_of) where
 -- in its lower half
 module _ (c : Else-q-slot) where
   in-lower : address c.args.p % 2 ^ c.args.t < 2 ^ (c.args.t - 1)
-  in-lower =
-      omega (
-        arith,
-        c.if-q-slot.false,
-        (let h : c.address_of-q.result % c.size_of-slot.result ≡ address c.args.p % 2 ^ c.args.t = ap₂ ◌%◌
-            (let h : c.address_of-q.result ≡ address c.args.p = c.address_of-q.ensures in h)
-            (let h : c.size_of-slot.result ≡ 2 ^ c.args.t = c.size_of-slot.ensures in h) in h),
-        (let h : c.size_of.result ≡ 2 ^ (c.args.t - 1) = c.size_of.ensures in h),
-      )
+  in-lower = omega (arith, c.if-q-slot.false, ap₂ ◌%◌ c.address_of-q.ensures c.size_of-slot.ensures, c.size_of.ensures)
 
 pub nonzero_rem-q : goal.nonzero_rem-q
 nonzero_rem-q c = rw c.size_of-slot.ensures (pow_pos _)

@@ -12,6 +12,10 @@ use Rattle.blocks.proofs.Rows.{run_at, run-bad, floor-rows, row-good, row-undama
 use Rattle.blocks.proofs.scan.by_rows.Goals as goal
 use Rattle.blocks.proofs.scan.by_rows.Goals.{After-slots_of-slots, Else-m-e, In-block, In-scan, Then-e-t}
 
+-- a whole row is left from a row's start i on, in a table of n slots
+row_left : (t m i n : ℕ) → t + 4 ≤ m → n ≡ 2 ^ (m - t) → i % 16 ≡ 0 → i < n → i + 16 ≤ n
+row_left t m i n high is start below = omega (arith, whole-rows (m - t) (omega (arith, high)), is, start, below)
+
 -- in the outer loop: the table, the orders of a slot and of the arena, the slot, and what is known of the slots before it
 module _ (c : In-scan) where
   abbrev table : List ℕ
@@ -26,17 +30,11 @@ module _ (c : In-scan) where
   abbrev slot : ℕ
   slot = c.scan.i
 
-  top-high : t + 4 ≤ top
-  top-high = c.requires.1
-
-  slots-are : length table ≡ 2 ^ (top - t)
-  slots-are = c.requires.3
-
   passed : (j : ℕ) → j < slot → Good t top table j
   passed = c.scan.invariant.3
 
   row_inside : slot + 16 ≤ length table
-  row_inside = omega (arith, whole-rows (top - t) (omega (arith, top-high)), slots-are, c.scan.invariant.2, c.scan-test.true)
+  row_inside = row_left t top slot (length table) c.requires.1 c.requires.3 c.scan.invariant.2 c.scan-test.true
 
 -- where the blocks of a row lie in it
 module _ (c : Then-e-t) where
@@ -44,14 +42,7 @@ module _ (c : Then-e-t) where
   row = take (c.scan.i + 16 - c.scan.i) (drop c.scan.i c.args.table.now)
 
   sixteen : length row ≡ 16
-  sixteen =
-      part_length c.args.table.now c.scan.i 16 ((let h : c.scan.i + 16 ≤ length c.args.table.now = omega (
-        arith,
-        whole-rows (c.args.m - c.args.t) (omega (arith, (let h : c.args.t + 4 ≤ c.args.m = c.requires.1 in h))),
-        (let h : length c.args.table.now ≡ 2 ^ (c.args.m - c.args.t) = c.requires.3 in h),
-        c.scan.invariant.2,
-        c.scan-test.true,
-      ) in h))
+  sixteen = part_length c.args.table.now c.scan.i 16 (row_left _ c.args.m _ _ c.requires.1 c.requires.3 c.scan.invariant.2 c.scan-test.true)
 
   entry_at : (j : ℕ) → j < 16 → get_or row j 0 ≡ get_or c.args.table.now (c.scan.i + j) 0
   entry_at = part-entry c.args.table.now c.scan.i 16
@@ -64,8 +55,7 @@ module _ (c : Then-e-t) where
   passed-row : damaged_by c.args.t (c.args.t + 4) row ≡ false → (j : ℕ) → c.scan.i ≤ j → j < c.scan.i + 16
       → Good c.args.t c.args.m c.args.table.now j
   passed-row d j lo hi =
-      let good = row-good c.args.t c.args.m c.args.table.now row c.scan.i sixteen c.scan.invariant.2 entry_at
-      (let h : c.args.t + 4 ≤ c.args.m = c.requires.1 in h) d in
+      let good = row-good c.args.t c.args.m c.args.table.now row c.scan.i sixteen c.scan.invariant.2 entry_at c.requires.1 d in
       rw (add-sub_of_le lo) at (good (j - c.scan.i) (omega arith))
 
   found-damage : damaged_by c.args.t (c.args.t + 4) row ≡ true → true ≡ damaged_by c.args.t c.args.m c.args.table.now
@@ -75,13 +65,8 @@ module _ (c : Then-e-t) where
       go true q = refl
       go false q =
           let u = row-undamaged c.args.t c.args.m c.args.table.now row c.scan.i sixteen c.scan.invariant.2 entry_at in
-          absurd (true≢false (sym d ∙ u first ((let h : c.scan.i + 16 ≤ length c.args.table.now = omega (
-            arith,
-            whole-rows (c.args.m - c.args.t) (omega (arith, (let h : c.args.t + 4 ≤ c.args.m = c.requires.1 in h))),
-            (let h : length c.args.table.now ≡ 2 ^ (c.args.m - c.args.t) = c.requires.3 in h),
-            c.scan.invariant.2,
-            c.scan-test.true,
-          ) in h)) q))
+          let left = row_left _ c.args.m _ _ c.requires.1 c.requires.3 c.scan.invariant.2 c.scan-test.true in
+          absurd (true≢false (sym d ∙ u first left q))
 
 -- where the block is larger: the entry, its order, and the range round the slot
 module _ (c : Else-m-e) where
@@ -106,9 +91,8 @@ module _ (c : Else-m-e) where
 
   ends : floor levels c.scan.i + 2 ^ levels ≤ length c.args.table.now
   ends =
-      rw ((let h : length c.args.table.now ≡ 2 ^ (c.args.m - c.args.t) = c.requires.3 in h))
-      (floor-end levels _ c.scan.i (omega (arith, c.if-m-e.false))
-      (rw ((let h : length c.args.table.now ≡ 2 ^ (c.args.m - c.args.t) = c.requires.3 in h)) at c.scan-test.true))
+      let are : length c.args.table.now ≡ 2 ^ (c.args.m - c.args.t) = c.requires.3 in
+      rw are (floor-end levels _ c.scan.i (omega (arith, c.if-m-e.false)) (rw are at c.scan-test.true))
 
   rows : 2 ^ levels % 16 ≡ 0
   rows = whole-rows levels (omega (arith, large))
@@ -129,15 +113,9 @@ module _ (c : In-block) where
 
   row_ends : c.block.at + 16 ≤ floor (c.order_in-e.result - c.args.t) c.scan.i + 2 ^ (c.order_in-e.result - c.args.t)
   row_ends =
-      let inv = c.block.invariant in omega (
-        arith,
-        (let h : 2 ^ (c.order_in-e.result - c.args.t) % 16 ≡ 0 = whole-rows (c.order_in-e.result - c.args.t)
-            (omega (arith, (let h : c.args.t + 4 < c.order_in-e.result = c.if-e-t.false in h))) in h),
-        inv.6,
-        inv.1,
-        inv.2,
-        c.block-test.true,
-      )
+      let inv = c.block.invariant in
+      let rows = whole-rows (c.order_in-e.result - c.args.t) (omega (arith, c.if-e-t.false)) in
+      omega (arith, rows, inv.6, inv.1, inv.2, c.block-test.true)
 
   -- what is said of the part is said of the table
   row-alike : all_free (has_entry (take (c.block.at + 16 - c.block.at) (drop c.block.at slots)) (get_or c.args.table.now c.scan.i 0)) 0 16

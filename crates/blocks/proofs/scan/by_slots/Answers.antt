@@ -11,6 +11,22 @@ use Rattle.blocks.proofs.Rows.{not_free, not-slot, single-good, below_both}
 use Rattle.blocks.proofs.scan.by_slots.Goals as goal
 use Rattle.blocks.proofs.scan.by_slots.Goals.{After-slots_of-slots, Else-not-is_order, Else-table-k, In-scan}
 
+-- what the two tests of an order say of it
+module _ (t m e : ℕ) (tested : leb t e && leb e m ≡ true) where
+  low_of : t ≤ e
+  low_of = leb-true t e (and_left _ _ tested)
+
+  high_of : e ≤ m
+  high_of = leb-true e m (and_right (leb t e) _ tested)
+
+-- an entry that is no single slot's says a range with pairs of slots
+pairs_of : (t e x : ℕ) → entry_order x ≡ e → t ≤ e → single t x ≡ false → 2 ^ (e - t) % 2 ≡ 0
+pairs_of t e x says low n =
+    elim (dec_lt t e) [
+      | yes l ↦ omega (arith, pow-split 1 (e - t) (omega arith))
+      | no l ↦ absurd (not-slot t x n (says ∙ omega (arith, low)))
+    ]
+
 -- in the outer loop: the table, the orders of a slot and of the arena, the slot, and what is known of the slots before it
 module _ (c : In-scan) where
   abbrev table : List ℕ
@@ -50,21 +66,13 @@ module _ (c : Else-not-is_order) where
   is-order = sym c.is_order.ensures ∙ c.if-not-is_order.false
 
   low-order : c.args.t ≤ order
-  low-order = leb-true c.args.t order (and_left _ _ is-order)
+  low-order = low_of _ _ _ is-order
 
   high-order : order ≤ c.args.m
-  high-order = leb-true order c.args.m (and_right (leb c.args.t order) _ is-order)
+  high-order = high_of _ _ _ is-order
 
   not-single : single c.args.t entry ≡ false
   not-single = sym c.is_single.ensures ∙ c.if-is_single.false
-
-  -- the entry is no single slot's, so the range has pairs of slots
-  pairs : 2 ^ levels % 2 ≡ 0
-  pairs =
-      elim (dec_lt c.args.t order) [
-        | yes l ↦ omega (arith, pow-split 1 levels (omega arith))
-        | no l ↦ absurd (not-slot c.args.t entry not-single (says ∙ omega (arith, low-order)))
-      ]
 
   taken : entry ≡ 0 → ⊥
   taken = not_free c.args.t entry not-single
@@ -89,42 +97,23 @@ module _ (c : After-slots_of-slots) where
       → (get_or c.args.table.now k 0 ≡ get_or c.args.table.now c.scan.i 0 → ⊥)
       → true ≡ damaged_by c.args.t c.args.m c.args.table.now
   torn k lo hi n =
-      sym (damaged-at c.args.t c.args.m c.args.table.now c.scan.i (get_or c.args.table.now c.scan.i 0) c.scan-test.true refl
-      (torn-bad c.args.t c.args.m c.args.table.now c.scan.i (get_or c.args.table.now c.scan.i 0) c.order_in-e.result k
-      ((let h : entry_order (get_or c.args.table.now c.scan.i 0) ≡ c.order_in-e.result = sym c.order_in-e.ensures in h))
-      ((let h : (get_or c.args.table.now c.scan.i 0) ≡ 0 → ⊥ = not_free c.args.t (get_or c.args.table.now c.scan.i 0)
-      (let h : single c.args.t (get_or c.args.table.now c.scan.i 0) ≡ false = sym c.is_single.ensures ∙ c.if-is_single.false in h) in h))
-      ((let h : c.args.t ≤ c.order_in-e.result = leb-true c.args.t c.order_in-e.result
-      (and_left _ _ (let h : leb c.args.t c.order_in-e.result && leb c.order_in-e.result c.args.m ≡ true = sym c.is_order.ensures
-      ∙ c.if-not-is_order.false in h)) in h)) ((let h : c.order_in-e.result ≤ c.args.m = leb-true c.order_in-e.result c.args.m
-      (and_right (leb c.args.t c.order_in-e.result) _
-      (let h : leb c.args.t c.order_in-e.result && leb c.order_in-e.result c.args.m ≡ true = sym c.is_order.ensures ∙ c.if-not-is_order.false in h)) in h)) lo
-      hi n))
+      let x = get_or c.args.table.now c.scan.i 0 in
+      let tested : leb c.args.t c.order_in-e.result && leb c.order_in-e.result c.args.m ≡ true = sym c.is_order.ensures ∙ c.if-not-is_order.false in
+      let not-single : single c.args.t x ≡ false = sym c.is_single.ensures ∙ c.if-is_single.false in
+      sym (damaged-at c.args.t c.args.m c.args.table.now c.scan.i x c.scan-test.true refl
+      (torn-bad c.args.t c.args.m c.args.table.now c.scan.i x c.order_in-e.result k (sym c.order_in-e.ensures) (not_free c.args.t x not-single)
+      (low_of _ _ _ tested) (high_of _ _ _ tested) lo hi n))
 
 -- two slots of it
 module _ (c : Else-table-k) where
   pair : c.block.k + 2 ≤ floor (c.order_in-e.result - c.args.t) c.scan.i + 2 ^ (c.order_in-e.result - c.args.t)
   pair =
       let inv = c.block.invariant in
-      omega (
-        arith,
-        (let h : 2 ^ (c.order_in-e.result - c.args.t) % 2 ≡ 0 = elim (dec_lt c.args.t c.order_in-e.result) [
-          | yes l ↦ omega (arith, pow-split 1 (c.order_in-e.result - c.args.t) (omega arith))
-          | no l ↦ absurd (not-slot c.args.t (get_or c.args.table.now c.scan.i 0)
-              (let h : single c.args.t (get_or c.args.table.now c.scan.i 0) ≡ false = sym c.is_single.ensures ∙ c.if-is_single.false in h)
-              ((let h : entry_order (get_or c.args.table.now c.scan.i 0) ≡ c.order_in-e.result = sym c.order_in-e.ensures in h)
-              ∙ omega (
-                arith,
-                (let h : c.args.t ≤ c.order_in-e.result = leb-true c.args.t c.order_in-e.result
-                    (and_left _ _ (let h : leb c.args.t c.order_in-e.result && leb c.order_in-e.result c.args.m ≡ true = sym c.is_order.ensures
-                    ∙ c.if-not-is_order.false in h)) in h),
-              )))
-        ] in h),
-        inv.1,
-        inv.2,
-        inv.6,
-        c.block-test.true,
-      )
+      let tested : leb c.args.t c.order_in-e.result && leb c.order_in-e.result c.args.m ≡ true = sym c.is_order.ensures ∙ c.if-not-is_order.false in
+      let even =
+      pairs_of c.args.t c.order_in-e.result (get_or c.args.table.now c.scan.i 0) (sym c.order_in-e.ensures) (low_of _ _ _ tested)
+      (sym c.is_single.ensures ∙ c.if-is_single.false) in
+      omega (arith, even, inv.1, inv.2, inv.6, c.block-test.true)
 
 pub scan-init : goal.scan-init
 scan-init c = (refl, omega arith, below_none _)

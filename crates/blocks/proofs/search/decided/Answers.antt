@@ -3,6 +3,10 @@ use Rattle.std.proofs.Common.{◌≡◌, ℕ, ◌-◌, ◌^◌, ◌≤◌, false
 use Rattle.blocks.proofs.search.decided.Goals as goal
 use Rattle.blocks.proofs.search.decided.Goals.{After-size_of, Else-bits-size_of, Start}
 
+-- all ones, as the code computes them: s is 2 ^ n, and n the slots of a part
+all_ones : (k t n s : ℕ) → n ≡ 2 ^ (k - t) → s ≡ 2 ^ n → s - 1 ≡ 2 ^ (2 ^ (k - t)) - 1
+all_ones k t n s e p = ap (λ (x : ℕ). x - 1) (p ∙ ap (λ (x : ℕ). 2 ^ x) e)
+
 -- what the function is given
 module _ (c : Start) where
   abbrev slots : ℕ
@@ -14,7 +18,7 @@ module _ (c : Start) where
 -- where the number of all ones is known
 module _ (c : After-size_of) where
   ones : c.size_of.result - 1 ≡ 2 ^ (2 ^ (c.args.k - c.args.t)) - 1
-  ones = ap (λ (x : ℕ). x - 1) (c.size_of.ensures ∙ ap (λ (x : ℕ). 2 ^ x) c.size_of-n.ensures)
+  ones = all_ones c.args.k c.args.t _ _ c.size_of-n.ensures c.size_of.ensures
 
 -- where the part is neither all taken nor all free
 module _ (c : Else-bits-size_of) where
@@ -22,10 +26,7 @@ module _ (c : Else-bits-size_of) where
   some = ne_eqb c.args.bits 0 c.if-bits-eq0.false
 
   not-all : eqb c.args.bits (2 ^ (2 ^ (c.args.k - c.args.t)) - 1) ≡ false
-  not-all =
-      ne_eqb _ _ (λ z. c.if-bits-size_of.false (z ∙ sym
-      ((let h : c.size_of.result - 1 ≡ 2 ^ (2 ^ (c.args.k - c.args.t)) - 1 = ap (λ (x : ℕ). x - 1)
-      (c.size_of.ensures ∙ ap (λ (x : ℕ). 2 ^ x) c.size_of-n.ensures) in h))))
+  not-all = ne_eqb _ _ (λ z. c.if-bits-size_of.false (z ∙ sym (all_ones c.args.k c.args.t _ _ c.size_of-n.ensures c.size_of.ensures)))
 
 pub returns-then-bits-eq0 : goal.returns-then-bits-eq0
 returns-then-bits-eq0 c = rw (eq-eqb c.args.bits 0 c.if-bits-eq0.true)

@@ -29,7 +29,7 @@ module _ (c : After-free_bits-bits) where
   bits-of-table : (s : List ℕ) → PartOf c.args.t s c.args.from c.args.k c.args.part.now
       → c.free_bits-bits.result ≡ bits_of (free_in s) c.args.from (2 ^ (c.args.k - c.args.t))
   bits-of-table s r =
-      c.free_bits-bits.ensures ∙ ap (bits_of (free_in c.args.part.now) 0) ((let h : length c.args.part.now ≡ 2 ^ (c.args.k - c.args.t) = c.requires.5 in h))
+      c.free_bits-bits.ensures ∙ ap (bits_of (free_in c.args.part.now) 0) c.requires.5
       ∙ bits-same (free_in c.args.part.now) (free_in s) 0 c.args.from _ (λ j l. rw zero-add (part_free r j l))
 
 -- where they are decided, or not

@@ -59,14 +59,10 @@ module _ (c : After-size_of) where
   bytes_fit =
       let a = c.args in
       let k = c.in-At.order in
-      let fit = get-bytes a.t a.m a.n a.arena.now a.table.now c.requires c.needed_order-e.result c.needed_order-e.ensures c.in-At.slot k
-      ((let h : place_in (free_in c.args.table.now) c.args.t 0 c.args.m c.needed_order-e.result ≡ At c.in-At.slot c.in-At.order = sym c.find_place.ensures
-      ∙ c.in-At.is in h)) in (
-        rw first-is fit,
-        get-small a.t a.m a.n a.arena.now a.table.now c.requires c.needed_order-e.result c.needed_order-e.ensures c.in-At.slot k
-            ((let h : place_in (free_in c.args.table.now) c.args.t 0 c.args.m c.needed_order-e.result ≡ At c.in-At.slot c.in-At.order = sym c.find_place.ensures
-            ∙ c.in-At.is in h)),
-      )
+      let e = c.needed_order-e in
+      let found : place_in (free_in a.table.now) a.t 0 a.m e.result ≡ At c.in-At.slot k = sym c.find_place.ensures ∙ c.in-At.is in
+      let fit = get-bytes a.t a.m a.n a.arena.now a.table.now c.requires e.result e.ensures c.in-At.slot k found in
+      (rw first-is fit, get-small a.t a.m a.n a.arena.now a.table.now c.requires e.result e.ensures c.in-At.slot k found)
 
 pub needed_order-e-requires : goal.needed_order-e-requires
 needed_order-e-requires c = let s = c.requires.sound in (s.slot-high, s.high)

@@ -25,9 +25,11 @@ module _ (c : After-wide-in-Inside) where
 -- how far the place lies from p
 module _ (c : After-wide-in-Inside-3) where
   low : c.args.p < 2 ^ 17
-  low = let x = ((let h : let a = c.args in
-      Led a.t a.m (Grid a.p a.rows a.columns a.row a.column) a.arena.now a.table.now a.p
-      c.in-Inside.s c.in-Inside.e = led c.requires _ c.locate_plain.ensures c.in-Inside.is in h)).within in omega (arith, x.high, x.inside, x.top)
+  low =
+      let a = c.args in
+      let home : Led a.t a.m (Grid a.p a.rows a.columns a.row a.column) a.arena.now a.table.now a.p c.in-Inside.s c.in-Inside.e =
+      led c.requires _ c.locate_plain.ensures c.in-Inside.is in
+      let x = home.within in omega (arith, x.high, x.inside, x.top)
 
   rows_on : c.wide-in-Inside-2.result * c.wide-in-Inside-3.result < 65026
   rows_on = product c.wide-in-Inside-2.result c.wide-in-Inside-3.result (omega arith) (omega arith)
