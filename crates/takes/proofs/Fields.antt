@@ -10,14 +10,14 @@ use lib.Seq.{drop_at, take-add}
 use lib.Dec.{leb}
 use borrow.Author.Tests.{lt-leb, leb-false}
 use Rattle.common.specs.Bytes.{big_endian, bytes_of}
-use Rattle.common.proofs.Bytes.{length-bytes_of}
+use Rattle.common.proofs.Bytes.{length-bytes_of, number-drop, number-forth}
 use Rattle.heap.specs.Registers.{register_count}
 use Rattle.common.proofs.Booleans.{or-false-left, or-false-right}
 use Rattle.takes.specs.Operations.{Kind, register, byte, half, word, size, sizes}
 use Rattle.takes.specs.Reading.{values, is_high, high_register}
 use Rattle.takes.specs.Writing.{value_bytes}
 use Rattle.takes.specs.RoundTrips.{Fits, AllFit, Bytes}
-use Rattle.takes.proofs.Numbers.{bytes_drop, number-drop, number-forth, number-back}
+use Rattle.takes.proofs.Numbers.{bytes_drop, number-back}
 
 -- where the field k starts, and what it is: the number that stands there
 abbrev pub start : List Kind → ℕ → ℕ
