@@ -1,6 +1,6 @@
 -- The free slots of a part as bits: a half of the number is that of a half of the part, 0 is none free, and all ones is all free.
 use Rattle.std.proofs.Common.{◌≡◌, ℕ, zero, suc, ◌+◌, ◌-◌, ◌*◌, ◌/◌, ◌%◌, ◌^◌, ◌<◌, ◌≤◌, Bool, true, false, cond, ◌&&◌, refl, ap, ◌∙◌, ap₂, add-zero, add-suc}
-use Rattle.std.proofs.Common.{suc-add, zero-add, arith, pow_pos}
+use Rattle.std.proofs.Common.{suc-add, zero-add, add-one, arith, pow_pos}
 use mathlib.Core.Bool.{false≢true}
 use native.Mathlib.Nat.{two-pow-succ}
 use lib.Pow.{high, low}
@@ -9,12 +9,16 @@ use Rattle.blocks.specs.Inner.{bits_of}
 
 module _ (f : ℕ → Bool) where
   -- a bit more, in front
-  pub bits-before : (a i n : ℕ) → 0 < i → i ≤ n → bits_of f (a + (i - 1)) (n - (i - 1)) ≡ cond (f (a + (i - 1))) 1 0 + 2 * bits_of f (a + i) (n - i)
+  pub bits-before : (i n : ℕ) → i < n → bits_of f i (n - i) ≡ cond (f i) 1 0 + 2 * bits_of f (i + 1) (n - (i + 1))
   unfolding bits_of
-  bits-before a i n l h =
-      let x : n - (i - 1) ≡ suc (n - i) = omega arith in
-      let y : a + i ≡ suc (a + (i - 1)) = omega arith in
-      rw (x, y)
+  bits-before i n l =
+      let x : n - i ≡ suc (n - (i + 1)) = omega arith in
+      rw (x, add-one i)
+
+  -- and none is left
+  pub no_bits : (i n : ℕ) → n ≤ i → bits_of f i (n - i) ≡ 0
+  unfolding bits_of
+  no_bits i n l = let z : n - i ≡ 0 = omega arith in rw z
 
   pub bits_below : (i n : ℕ) → bits_of f i n < 2 ^ n
   unfolding bits_of

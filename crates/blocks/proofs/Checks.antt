@@ -4,9 +4,8 @@ use Rattle.std.proofs.Common.{le-leb, leb-true}
 use mathlib.Core.Bool.{and-false}
 use native.Mathlib.Decide.{dec_lt}
 use lib.Bits.{bit_xor, xor_shr, xor_self, xor_add_and, and_le_l, and_le_r}
-use Rattle.blocks.specs.Blocks.{floor, holds}
+use Rattle.blocks.specs.Blocks.{floor, holds, Found}
 use Rattle.blocks.specs.Pointers.{signed, exact_sum, wrapped_sum, check_bits, within}
-use Rattle.blocks.specs.declared.Referent.TheVariants.{Found}
 use Rattle.common.proofs.Booleans.{and_left, and_right, and_both, true-together}
 use Rattle.blocks.proofs.Floors.{floor-le, lt-floor, quotient-same, floor-end}
 use Rattle.blocks.proofs.Slots.{block}

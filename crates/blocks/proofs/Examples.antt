@@ -1,14 +1,11 @@
 -- The definitions computed on small tables: an arena of 64 bytes, 4 slots of 16. To unfold `damage` or `placed` is to unfold all that it computes with.
 use Rattle.std.proofs.Common.{◌≡◌, ℕ, Bool, true, false, List, [], ◌∷◌, pos, negsuc, refl}
-use Rattle.blocks.specs.Blocks.{floor}
+use Rattle.blocks.specs.Blocks.{floor, Missing, Found}
 use Rattle.blocks.specs.Tables.{any, entry_order, torn, bad, damaged_by, free_in, locked_in, referent_in}
 use Rattle.blocks.specs.Sets.{Pair, referent_of, locked_of, entries_from, table_of, pairs_from, pairs_of}
 use Rattle.blocks.specs.Pointers.{sought, signed, exact_sum}
 use Rattle.blocks.specs.Orders.{order_of, needed_order}
-use Rattle.blocks.specs.Placing.{all_free, range_start, free_range, maximal, lowest, at_order, from_order, place_in}
-use Rattle.blocks.specs.declared.Place.{Place}
-use Rattle.blocks.specs.declared.Place.TheVariants.{At, Nothing}
-use Rattle.blocks.specs.declared.Referent.TheVariants.{Missing, Found}
+use Rattle.blocks.specs.Placing.{all_free, range_start, free_range, maximal, lowest, at_order, from_order, place_in, Place, At, Nothing}
 
 damage : List ℕ → Bool
 unfolding any entry_order torn bad damaged_by floor

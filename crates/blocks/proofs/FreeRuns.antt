@@ -1,8 +1,9 @@
 -- Runs of free slots: what `all_free` says of a run, of each of its slots and of its parts, by induction on its length.
 use Rattle.std.proofs.Common.{◌≡◌, ℕ, zero, suc, ◌+◌, ◌-◌, ◌<◌, ◌≤◌, Bool, true, false, ◌&&◌, List, length, get_or, take, drop, sym, refl, ap, ◌∙◌, subst, ap₂}
-use Rattle.std.proofs.Common.{add-zero, add-suc, suc-add, zero-add, arith, length-drop, length-take, get_or-drop, get_or-take}
+use Rattle.std.proofs.Common.{add-zero, add-suc, suc-add, zero-add, add-one, arith, length-append, length-drop, length-take, get_or-drop, get_or-take, ◌++◌}
+use Rattle.std.proofs.Math.ListN.{get_or-append}
+use Rattle.std.proofs.lemmas.List.{get_or-append-add}
 use mathlib.Core.Bool.{and_assoc}
-use native.Mathlib.Nat.{sub-zero}
 use Rattle.blocks.specs.Placing.{all_free}
 use Rattle.common.proofs.Booleans.{and_left, and_right}
 
@@ -16,18 +17,12 @@ unfolding all_free
 all-stop f i zero l h = absurd (omega arith)
 all-stop f i (suc n) l h = rw h
 
--- a run that nothing is left out of
-pub all_whole : (f : ℕ → Bool) (a i n : ℕ) → i ≤ 0 → all_free f (a + i) (n - i) ≡ all_free f a n
-all_whole f a i n l = let z : i ≡ 0 = omega arith in rw (z, add-zero, sub-zero)
-
 -- a run that begins a slot earlier
-pub all-before : (f : ℕ → Bool) (a i n : ℕ) → 0 < i → i ≤ n
-    → all_free f (a + (i - 1)) (n - (i - 1)) ≡ f (a + (i - 1)) && all_free f (a + i) (n - i)
+pub all-before : (f : ℕ → Bool) (i n : ℕ) → i < n → all_free f i (n - i) ≡ f i && all_free f (i + 1) (n - (i + 1))
 unfolding all_free
-all-before f a i n l h =
-    let x : n - (i - 1) ≡ suc (n - i) = omega arith in
-    let y : a + i ≡ suc (a + (i - 1)) = omega arith in
-    rw (x, y)
+all-before f i n l =
+    let x : n - i ≡ suc (n - (i + 1)) = omega arith in
+    rw (x, add-one i)
 
 pub all-at : (f : ℕ → Bool) (i n : ℕ) → all_free f i n ≡ true → (j : ℕ) → j < n → f (i + j) ≡ true
 unfolding all_free
@@ -73,16 +68,12 @@ all_append f i zero l = rw (zero-add, add-zero)
 all_append f i (suc n) l = rw (suc-add, add-suc, ← suc-add)
     (ap (◌&&◌ (f i)) (all_append f (suc i) n l) ∙ sym (and_assoc (f i) _ _))
 
--- a run whose first r slots are looked at together
-all-rows : (f : ℕ → Bool) (a i r n : ℕ) → i + r ≤ n → all_free f (a + i) (n - i) ≡ all_free f (a + i) r && all_free f (a + (i + r)) (n - (i + r))
-all-rows f a i r n l =
-    let x : n - i ≡ r + (n - (i + r)) = omega arith in
-    let y : a + (i + r) ≡ a + i + r = omega arith in
-    rw (x, y) (all_append f (a + i) r (n - (i + r)))
-
-pub row-stop : (f : ℕ → Bool) (a i r n : ℕ) → i + r ≤ n → all_free f (a + i) r ≡ false → all_free f (a + i) (n - i) ≡ false
-row-stop f a i r n l h = all-rows f a i r n l ∙ rw h
-
-pub row_step : (f : ℕ → Bool) (a i r n : ℕ) → i + r ≤ n → all_free f (a + i) r ≡ true
-    → all_free f (a + i) (n - i) ≡ all_free f (a + (i + r)) (n - (i + r))
-row_step f a i r n l h = all-rows f a i r n l ∙ rw h
+-- of two lists joined, told by their entries: each of both
+pub all_join : (test : ℕ → Bool) (a b : List ℕ)
+    → all_free (λ i. test (get_or (a ++ b) i 0)) 0 (length (a ++ b))
+    ≡ all_free (λ i. test (get_or a i 0)) 0 (length a) && all_free (λ i. test (get_or b i 0)) 0 (length b)
+all_join test a b =
+    let f : ℕ → Bool = λ i. test (get_or (a ++ b) i 0) in
+    rw length-append (all_append f 0 (length a) (length b)
+    ∙ ap₂ ◌&&◌ (all_same f (λ i. test (get_or a i 0)) 0 0 (length a) (λ j l. rw zero-add (ap test (get_or-append a b 0 j l))))
+    (all_same f (λ i. test (get_or b i 0)) (0 + length a) 0 (length b) (λ j l. rw (zero-add, zero-add) (ap test (get_or-append-add a b j 0)))))

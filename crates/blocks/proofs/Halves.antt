@@ -5,9 +5,7 @@ use Rattle.std.proofs.Common.{⊎_elim, add-zero, add-suc, mul-le-mul_right, add
 use Rattle.std.proofs.Common.{eq-eqb, ne_eqb}
 use mathlib.Core.Bool.{and-false}
 use native.Mathlib.Nat.{two-pow-succ}
-use Rattle.blocks.specs.declared.Place.{Place}
-use Rattle.blocks.specs.declared.Place.TheVariants.{At, Nothing}
-use Rattle.blocks.specs.Placing.{all_free, range_start, free_range, maximal, lowest, at_order, or_else, from_order, place_in}
+use Rattle.blocks.specs.Placing.{Place, At, Nothing, all_free, range_start, free_range, maximal, lowest, at_order, or_else, from_order, place_in}
 use Rattle.blocks.proofs.FreeRuns.{part}
 
 -- of two places the one of the smaller order, and the first of equals

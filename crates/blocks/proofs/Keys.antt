@@ -1,9 +1,7 @@
 -- Places by their keys: of the places in two halves, the one with the smaller key is the smaller one.
-use Rattle.std.proofs.Common.{◌≡◌, ℕ, ◌+◌, ◌-◌, ◌*◌, ◌/◌, ◌%◌, ◌^◌, ◌<◌, ◌≤◌, Bool, true, false, sym, refl, ap, ◌∙◌, subst, ap₂, true≢false, arith, pow_pos}
-use Rattle.blocks.specs.declared.Place.{Place}
-use Rattle.blocks.specs.declared.Place.TheVariants.{At, Nothing}
-use Rattle.blocks.specs.Placing.{place_in}
-use Rattle.blocks.specs.Inner.{key_of}
+use Rattle.std.proofs.Common.{◌≡◌, ℕ, ◌+◌, ◌-◌, ◌*◌, ◌/◌, ◌%◌, ◌^◌, ◌<◌, ◌≤◌, Bool, true, false, sym, refl, ap, ◌∙◌, subst, true≢false, arith, pow_pos, ne_eqb}
+use Rattle.blocks.specs.Placing.{Place, At, Nothing, place_in}
+use Rattle.blocks.specs.Inner.{key_of, place_at}
 use Rattle.blocks.proofs.Halves.{smaller_of, smaller-left, smaller-right}
 use Rattle.blocks.proofs.Places.{FreePlace, place-sound, range_inside}
 
@@ -61,16 +59,11 @@ module _ (lo mid hi e : ℕ) (between : mid ≤ hi) (top : hi ≤ 65536) (low : 
   key-first (At s k) (At u i) p q l = omega arith
 
 -- a key tells its place
-module _ (lo hi e n : ℕ) (top : hi ≤ 65536) where
-  pub key-nothing : (x : Place) → Within lo hi e x → n ≡ key_of x → n ≡ 1114112 → Nothing ≡ x
-  unfolding key_of
-  key-nothing Nothing p h q = refl
-  key-nothing (At s k) p h q = absurd (omega arith)
-
-  pub key-place : (x : Place) → Within lo hi e x → n ≡ key_of x → (n ≡ 1114112 → ⊥) → At (n % 65536) (n / 65536) ≡ x
-  unfolding key_of
-  key-place Nothing p h q = absurd (q h)
-  key-place (At s k) p h q =
-      let a : n % 65536 ≡ s = omega arith in
-      let b : n / 65536 ≡ k = omega arith in
-      ap₂ At a b
+pub key-place : (lo hi e : ℕ) → hi ≤ 65536 → (x : Place) → Within lo hi e x → place_at (key_of x) ≡ x
+unfolding key_of
+key-place lo hi e top Nothing p = refl
+key-place lo hi e top (At s k) p =
+    let other : k * 65536 + s ≡ 1114112 → ⊥ = λ z. omega arith in
+    let a : (k * 65536 + s) % 65536 ≡ s = omega arith in
+    let b : (k * 65536 + s) / 65536 ≡ k = omega arith in
+    rw (ne_eqb (k * 65536 + s) 1114112 other, a, b)

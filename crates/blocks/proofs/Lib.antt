@@ -8,6 +8,8 @@ pub mod Referents
 pub mod Outside
 pub mod FreeRuns
 pub mod Rows
+pub mod Chunks
+pub mod Scanning
 pub mod Halves
 pub mod Places
 pub mod Keys

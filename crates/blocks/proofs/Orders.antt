@@ -1,23 +1,16 @@
--- The order of an arena's length, and the order that a get needs: one law for each step of the two loops, and what they find, by induction on the orders
+-- The order of an arena's length, and the order that a get needs: a law for a step of each of the two loops, and what they find, by induction on the orders
 -- that are left.
 use Rattle.std.proofs.Common.{◌≡◌, ℕ, zero, suc, ◌+◌, ◌-◌, ◌^◌, ◌<◌, ◌≤◌, Bool, true, false, cond, eqb, leb, ◌⊎◌, sym, refl, ap, subst, inl, inr, ⊎_elim}
-use Rattle.std.proofs.Common.{add-zero, add-suc, suc-add, eq-or-lt_of_le, add-one, arith, eq-eqb, ne_eqb, eqb-true, le-leb, leb-false, leb-true}
+use Rattle.std.proofs.Common.{add-zero, add-suc, suc-add, eq-or-lt_of_le, add-one, arith, eq-eqb, ne_eqb, eqb-true, leb-false, leb-true}
 use lib.Pow.{pow-lt}
 use borrow.Author.Tests.{lt-leb}
 use Rattle.blocks.specs.Orders.{order_from, order_of, needed_from, needed_order}
 
--- the steps of the loop that looks for an arena's order, m the next to be tried
-module _ (n m : ℕ) where
-  pub order-hit : m ≤ 16 → n ≡ 2 ^ m → order_from n (17 - m) m ≡ m
-  order-hit l e = let z : 17 - m ≡ suc (16 - m) = omega arith in rw (z, eq-eqb n (2 ^ m) e)
-
-  pub order-next : m ≤ 16 → (n ≡ 2 ^ m → ⊥) → order_from n (17 - m) m ≡ order_from n (17 - (m + 1)) (m + 1)
-  order-next l d =
-      let z : 17 - m ≡ suc (17 - (m + 1)) = omega arith in
-      rw (z, ne_eqb n (2 ^ m) d, add-one m)
-
-  pub order-end : 16 < m → order_from n (17 - m) m ≡ 0
-  order-end l = let z : 17 - m ≡ 0 = omega arith in rw z
+-- where m is no order of the length, the next ones are left to try
+pub order-next : (n m : ℕ) → m ≤ 16 → (n ≡ 2 ^ m → ⊥) → order_from n (17 - m) m ≡ order_from n (17 - (m + 1)) (m + 1)
+order-next n m l d =
+    let z : 17 - m ≡ suc (17 - (m + 1)) = omega arith in
+    rw (z, ne_eqb n (2 ^ m) d, add-one m)
 
 -- e is one of the k orders from m on, and n its power of two
 pub record IsOrder (n k m e : ℕ) : Type 0 where
@@ -53,18 +46,11 @@ pub order-power : (m : ℕ) → 5 ≤ m → m ≤ 16 → order_of (2 ^ m) ≡ m
 unfolding order_of
 order-power m l h = order-finds m 12 5 l (omega arith)
 
--- the steps of the loop that looks for the order that n bytes need, e the next to be tried
-module _ (n m e : ℕ) where
-  pub needed-hit : e < m → n ≤ 2 ^ e → needed_from n (m - e) e ≡ e
-  needed-hit l h = let z : m - e ≡ suc (m - suc e) = omega arith in rw (z, le-leb n (2 ^ e) h)
-
-  pub needed-next : e < m → 2 ^ e < n → needed_from n (m - e) e ≡ needed_from n (m - (e + 1)) (e + 1)
-  needed-next l h =
-      let z : m - e ≡ suc (m - (e + 1)) = omega arith in
-      rw (z, lt-leb n (2 ^ e) h, add-one e)
-
-  pub needed-end : m ≤ e → needed_from n (m - e) e ≡ e
-  needed-end l = let z : m - e ≡ 0 = omega arith in rw z
+-- where n bytes are more than the size of the order e, the next ones are left to try
+pub needed-next : (n m e : ℕ) → e < m → 2 ^ e < n → needed_from n (m - e) e ≡ needed_from n (m - (e + 1)) (e + 1)
+needed-next n m e l h =
+    let z : m - e ≡ suc (m - (e + 1)) = omega arith in
+    rw (z, lt-leb n (2 ^ e) h, add-one e)
 
 -- e is the smallest order from t up whose size is at least n
 pub record Needed (t m n e : ℕ) : Type 0 where

@@ -1,27 +1,17 @@
--- What lies outside the arena: an address below 0 may be told by 0, as the code holds it; where there is a referent the address lies inside; and inside, by
+-- What lies outside the arena: where there is a referent the address lies inside; and inside, by
 -- the table, there is none exactly where the slot is free.
 use Rattle.std.proofs.Common.{◌≡◌, ℕ, zero, suc, ◌+◌, ◌-◌, ◌*◌, ◌^◌, ◌<◌, ◌≤◌, Bool, true, false, ◌&&◌, eqb, ltb, leb, List, length, get_or, ℤ, pos, negsuc}
 use Rattle.std.proofs.Common.{sym, refl, ap, ◌∙◌, div-lt_iff_lt-mul, le-div_iff_mul-le, arith, pow_pos, ltb-true, le-ltb, lt-ltb, ne_eqb, le-leb, leb-false}
 use Rattle.std.proofs.Common.{leb-true}
-use borrow.Author.Tests.{lt-leb, not-false}
-use Rattle.blocks.specs.Blocks.{base, Block, holds, missing, Aligned}
+use borrow.Author.Tests.{not-false}
+use Rattle.blocks.specs.Blocks.{base, Block, holds, missing, Aligned, Found}
 use Rattle.blocks.specs.Tables.{damaged_by, free_in, block_round, referent_in}
 use Rattle.blocks.specs.Pointers.{referent_at, outside_at}
-use Rattle.blocks.specs.Inner.{from_zero}
-use Rattle.blocks.specs.declared.Referent.TheVariants.{Found}
 use Rattle.common.proofs.Booleans.{and_left, and_right, and_both}
 use Rattle.blocks.proofs.Floors.{pow-split}
 use Rattle.blocks.proofs.Slots.{block, slot_of}
 use Rattle.blocks.proofs.Referents.{referent-entry, referent-block}
 use Rattle.blocks.proofs.Sets.{held_low, held_high}
-
--- an address below 0 is outside, as 0 is
-pub outside-from-zero : (m : ℕ) (z : ℤ) → outside_at m (pos (from_zero z)) ≡ outside_at m z
-outside-from-zero m (pos q) = refl
-outside-from-zero m (negsuc n) = refl
-
-pub outside_below : (m q : ℕ) → q < base → true ≡ outside_at m (pos q)
-outside_below m q l = rw (lt-leb base q l)
 
 -- the arena ends where its slots do
 pub outside_above : (t m q : ℕ) → base ≤ q → t ≤ m → (slots : ℕ) → slots ≡ 2 ^ (m - t) → leb slots (slot_of t q) ≡ outside_at m (pos q)

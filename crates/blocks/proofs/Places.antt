@@ -2,9 +2,7 @@
 -- there is none, no such range is free.
 use Rattle.std.proofs.Common.{◌≡◌, ℕ, zero, suc, ◌+◌, ◌-◌, ◌*◌, ◌/◌, ◌^◌, ◌<◌, ◌≤◌, Bool, true, false, cond, not, ◌&&◌, eqb, sym, refl, ap, ◌∙◌, subst, ⊎_elim}
 use Rattle.std.proofs.Common.{true≢false, mul-le-mul_right, suc-mul, eq-or-lt_of_le, arith, eq-eqb}
-use Rattle.blocks.specs.declared.Place.{Place}
-use Rattle.blocks.specs.declared.Place.TheVariants.{At, Nothing}
-use Rattle.blocks.specs.Placing.{range_start, free_range, maximal, lowest, at_order, or_else, from_order, place_in}
+use Rattle.blocks.specs.Placing.{Place, At, Nothing, range_start, free_range, maximal, lowest, at_order, or_else, from_order, place_in}
 use Rattle.common.proofs.Booleans.{and_left, and-false-cases, or_right}
 use Rattle.blocks.proofs.Halves.{doubled, sizes}
 use Rattle.blocks.proofs.FreeRuns.{all-at}

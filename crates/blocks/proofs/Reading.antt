@@ -10,11 +10,9 @@ use native.Mathlib.Nat.{mul-mod_left}
 use native.Mathlib.Decide.{dec_lt}
 use borrow.Author.Tests.{eqb-false, not-true}
 use lib.ListN.{get_or-eq_default}
-use Rattle.blocks.specs.Blocks.{base, floor, Block, holds, Aligned}
+use Rattle.blocks.specs.Blocks.{base, floor, Block, holds, Aligned, Referent, Missing, Found}
 use Rattle.blocks.specs.Sets.{Pair, ranges, PairSet, IsTable, SameSet, referent_of, locked_of, table_of, pair_at, pairs_from, pairs_of}
 use Rattle.blocks.specs.Tables.{lock_bit, entry_order, entry_locked, entry_of, damaged_by, block_round, referent_in}
-use Rattle.blocks.specs.declared.Referent.{Referent}
-use Rattle.blocks.specs.declared.Referent.TheVariants.{Missing, Found}
 use Rattle.common.proofs.Booleans.{and_left, and_right}
 use Rattle.blocks.proofs.Floors.{floor-quotient, floor-le, lt-floor, floor-multiple}
 use Rattle.blocks.proofs.Referents.{referent-entry}

@@ -3,11 +3,10 @@ use Rattle.std.proofs.Common.{◌≡◌, ℕ, zero, suc, ◌+◌, ◌-◌, ◌*�
 use Rattle.std.proofs.Common.{negsuc, sym, refl, ap, ◌∙◌, subst, arith, ltb-true, le-ltb, lt-ltb, le-leb, leb-true}
 use borrow.Author.Tests.{lt-leb}
 use lib.IntN.{sub_ℕ}
-use Rattle.blocks.specs.Blocks.{base, floor, Aligned}
+use Rattle.blocks.specs.Blocks.{base, floor, Aligned, Missing, Found}
 use Rattle.blocks.specs.Tables.{entry_order, damaged_by, block_round, referent_in}
 use Rattle.blocks.specs.Pointers.{marked, address, sought, referent_at}
 use Rattle.blocks.specs.Inner.{from_zero}
-use Rattle.blocks.specs.declared.Referent.TheVariants.{Missing, Found}
 use Rattle.common.proofs.Booleans.{and_left, and_right, and_both}
 use Rattle.blocks.proofs.Floors.{floor-le, lt-floor, floor-same}
 use Rattle.blocks.proofs.Slots.{block, slot_of, slot-start, InSlots, floor-slots, Slots, aligned-of, slots-round, held-slots}

@@ -1,7 +1,6 @@
 -- Rows of slots: what a row of a block says of the block, a row as a table of its own, and parts of whole rows.
 use Rattle.std.proofs.Common.{◌≡◌, ℕ, zero, suc, ◌+◌, ◌-◌, ◌*◌, ◌/◌, ◌%◌, ◌^◌, ◌<◌, ◌≤◌, Bool, true, false, ◌&&◌, ◌||◌, eqb, leb, List, length, get_or, sym}
 use Rattle.std.proofs.Common.{refl, ap, ◌∙◌, true≢false, add-zero, mul_assoc, add-sub_of_le, arith, eq-eqb, eqb-true, leb-true}
-use native.Mathlib.Nat.{add-sub_cancel_left}
 use native.Mathlib.Decide.{dec_lt}
 use borrow.Author.Tests.{eqb-false}
 use Rattle.blocks.specs.Blocks.{floor}
@@ -59,10 +58,6 @@ run_at s x k n h j lo hi =
     eqb-true (get_or s j 0) x (rw (add-sub_of_le lo) at z)
 
 -- ---- a row as a table of its own
--- an arena whose order is 4 above that of a slot has as many slots as a row
-pub row-slots : (t : ℕ) → 2 ^ (t + 4 - t) ≡ 16
-row-slots t = rw add-sub_cancel_left
-
 -- rounding down within a row, from its first slot
 floor-row : (b i j : ℕ) → b ≤ 4 → i % 16 ≡ 0 → floor b (i + j) ≡ i + floor b j
 unfolding floor

@@ -2,13 +2,12 @@
 -- those of a table.
 use Rattle.std.proofs.Common.{◌≡◌, ℕ, ◌+◌, ◌-◌, ◌*◌, ◌/◌, ◌^◌, ◌<◌, ◌≤◌, Bool, true, false, cond, not, ◌&&◌, eqb, leb, List, length, get_or, sym, refl, ap, ◌∙◌}
 use Rattle.std.proofs.Common.{subst, add-zero, add_assoc, mul-le-mul_right, mul_assoc, suc-mul, add-mul, zero-add, zero-mul, arith, pow_pos, ne_eqb, eqb-true}
-use Rattle.std.proofs.Common.{le-leb}
+use Rattle.std.proofs.Common.{le-leb, zero, suc, min, Some, None}
+use Rattle.blocks.specs.Orders.{unless_zero}
 use native.Mathlib.Decide.{dec_lt}
 use borrow.Author.Tests.{eqb-false, not-true}
-use Rattle.blocks.specs.declared.Place.{Place}
-use Rattle.blocks.specs.declared.Place.TheVariants.{Nothing}
+use Rattle.blocks.specs.Placing.{Place, Nothing, all_free, place_in}
 use Rattle.blocks.specs.Tables.{entry_order, damaged_by, free_in}
-use Rattle.blocks.specs.Placing.{all_free, place_in}
 use Rattle.blocks.specs.Inner.{bits_of, as_free, decided_by, PartOf, key_of}
 use Rattle.blocks.proofs.Floors.{floor-le, lt-floor, floor-quotient, pow-split}
 use Rattle.blocks.proofs.Tables.{order-taken, undamaged-whole}
@@ -45,6 +44,15 @@ pub record Decided (t bits from k e r : ℕ) : Type 0 where
   pub above : r ≡ 0 → e < k
   pub mixed : r ≡ 0 → (f : ℕ → Bool) → bits ≡ bits_of f from (2 ^ (k - t)) → all_free f from (2 ^ (k - t)) ≡ false
 
+-- a number that is none where it is 0
+unless-some : (d n : ℕ) → Some n ≡ unless_zero d → (n ≡ d) × (n ≡ 0 → ⊥)
+unless-some zero n h = cc
+unless-some (suc d) n h = let e : n ≡ suc d = cc in (e, λ z. omega arith)
+
+unless_none : (d : ℕ) → None ≡ unless_zero d → 0 ≡ d
+unless_none zero h = refl
+unless_none (suc d) h = cc
+
 module _ (t bits from k e : ℕ) (low : t ≤ e) (high : e ≤ k) (some : 0 < k) where
   answers : (r : ℕ) → (r ≡ 0 → ⊥) → ((f : ℕ → Bool) → bits ≡ bits_of f from (2 ^ (k - t)) → r ≡ key_of (place_in f t from k e))
       → Decided t bits from k e r
@@ -76,6 +84,14 @@ module _ (t bits from k e : ℕ) (low : t ≤ e) (high : e ≤ k) (some : 0 < k)
           → Decided t bits from k e (cond b 1114112 (cond (eqb bits (2 ^ 2 ^ (k - t) - 1)) (k * 65536 + from) (cond (eqb k e) 1114112 0)))
       none-set true q = answers 1114112 (λ z. omega arith) (λ f x. none_free f t from k e low high (bits_none f from _ (sym x ∙ eqb-true bits 0 q)))
       none-set false q = all_set (eqb bits (2 ^ 2 ^ (k - t) - 1)) refl
+
+  -- the same of an answer that the code gives as an option
+  pub answered : (n : ℕ) → Some n ≡ unless_zero (decided_by t bits from k e) → (f : ℕ → Bool) → bits ≡ bits_of f from (2 ^ (k - t))
+      → n ≡ key_of (place_in f t from k e)
+  answered n h = let is = unless-some _ n h in (decided n is.0).answer is.1
+
+  pub undecided : None ≡ unless_zero (decided_by t bits from k e) → Decided t bits from k e 0
+  undecided h = decided 0 (unless_none _ h)
 
 -- a part that is searched by halves
 pub record Halved (f : ℕ → Bool) (t from k e : ℕ) : Type 0 where
@@ -117,14 +133,20 @@ module _ {f : ℕ → Bool} {t from k e : ℕ} (h : Halved f t from k e) where
   smaller-half : key_of (smaller_of left right) ≡ key_of both
   smaller-half = sym (ap key_of (place-halves f t from k e h.low h.below h.not_free))
 
-  pub left-half : key_of left ≤ key_of right → key_of left ≡ key_of both
+  left-half : key_of left ≤ key_of right → key_of left ≡ key_of both
   left-half l = sym (key_left from mid end e (omega arith) end-top (omega (arith, h.below, h.top)) left right left-within right-within l) ∙ smaller-half
 
-  pub right-half : key_of right < key_of left → key_of right ≡ key_of both
+  right-half : key_of right < key_of left → key_of right ≡ key_of both
   right-half l = sym (key_right from mid end e (omega arith) end-top (omega (arith, h.below, h.top)) left right left-within right-within l) ∙ smaller-half
 
   pub first-half : key_of left < (e + 1) * 65536 → key_of left ≡ key_of both
   first-half l = left-half (key-first from mid end e (omega arith) end-top (omega (arith, h.below, h.top)) left right left-within right-within l)
+
+  pub better-half : min (key_of right) (key_of left) ≡ key_of both
+  better-half = elim (dec_lt (key_of right) (key_of left)) [
+    | yes l ↦ let m : min (key_of right) (key_of left) ≡ key_of right = omega arith in m ∙ right-half l
+    | no l ↦ let m : min (key_of right) (key_of left) ≡ key_of left = omega arith in m ∙ left-half (omega arith)
+  ]
 
 -- ---- parts of a table
 -- the arena is a part

@@ -6,11 +6,9 @@ use mathlib.Core.List.{Memᴰ}
 use native.Mathlib.Decide.{dec_lt}
 use borrow.Author.Tests.{lt-leb}
 use lib.ListN.{get_or-eq_default}
-use Rattle.blocks.specs.Blocks.{base, floor, holds, missing, order_in}
+use Rattle.blocks.specs.Blocks.{base, floor, holds, missing, order_in, Referent, Missing, Found}
 use Rattle.blocks.specs.Sets.{Pair, ranges, PairSet, IsTable, referent_of, locked_of, entry_at, entries_from, table_of}
 use Rattle.blocks.specs.Tables.{lock_bit, entry_locked, entry_of, damaged_by, free_in, block_round, locked_in, referent_in}
-use Rattle.blocks.specs.declared.Referent.{Referent}
-use Rattle.blocks.specs.declared.Referent.TheVariants.{Missing, Found}
 use Rattle.blocks.proofs.Floors.{floor-le, lt-floor, pow-split, floor-multiple}
 use Rattle.blocks.proofs.Referents.{referent-below, referent-past, referent-entry}
 use Rattle.blocks.proofs.Sets.{BlockSet, found-member, missing-none, none-missing, member-found, found-aligned, found-round, outside-missing}

@@ -5,11 +5,9 @@ use Rattle.std.proofs.Common.{arith, ltb-true, leb-true}
 use mathlib.Core.Bool.{false≢true}
 use mathlib.Core.List.Memᴰ
 use mathlib.Core.List.{Memᴰ}
-use Rattle.blocks.specs.Blocks.{base, Block, holds, Aligned}
+use Rattle.blocks.specs.Blocks.{base, Block, holds, Aligned, Referent, Missing, Found}
 use Rattle.blocks.specs.Sets.{Pair, ranges, PairSet, referent_of, locked_of}
 use Rattle.blocks.specs.Tables.{lock_bit, entry_of, block_round}
-use Rattle.blocks.specs.declared.Referent.{Referent}
-use Rattle.blocks.specs.declared.Referent.TheVariants.{Missing, Found}
 use Rattle.common.proofs.Booleans.{and_left, and_right, true-together}
 use Rattle.blocks.proofs.Floors.{floor-multiple}
 use Rattle.blocks.proofs.Referents.{round-some}

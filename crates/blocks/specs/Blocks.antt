@@ -1,7 +1,6 @@
 -- Document 01, "Blocks and their table": aligned blocks of addresses, and the block that a pointer refers to.
-use Rattle.std.specs.Prelude.{◌≡◌, ℕ, ◌+◌, ◌-◌, ◌*◌, ◌/◌, ◌^◌, ◌≤◌, Bool, true, false, ◌&&◌, nat_le, nat_lt}
-use Rattle.blocks.specs.declared.Referent.{Referent}
-use Rattle.blocks.specs.declared.Referent.TheVariants.{Missing, Found}
+use Rattle.std.specs.Prelude.{◌≡◌, ℕ, ◌+◌, ◌-◌, ◌*◌, ◌/◌, ◌^◌, ◌≤◌, Bool, true, false, ◌&&◌, nat_le, nat_lt, Option, Some, None}
+pub use Rattle.blocks.specs.declared.Block.{Block}
 
 -- the arena's first address
 abbrev pub base : ℕ
@@ -11,12 +10,7 @@ base = 65536
 unfoldable pub floor : ℕ → ℕ → ℕ
 floor e n = n / 2 ^ e * 2 ^ e
 
--- a block of order e: 2 ^ e addresses from its start on
-pub record Block : Type 0 where
-  pub start : ℕ
-  pub order : ℕ
-
--- the block's range holds the address q
+-- A block of order e has 2 ^ e addresses, from its start on. Its range holds the address q:
 abbrev pub holds : Block → ℕ → Bool
 holds b q = nat_le b.start q && nat_lt q (b.start + 2 ^ b.order)
 
@@ -29,6 +23,15 @@ pub record Aligned (t m : ℕ) (b : Block) : Type 0 where
   pub inside : b.start + 2 ^ b.order ≤ base + 2 ^ m
 
 -- The referent (document 01: the home) of a pointer is a block, by its start and order, or missing.
+pub data Referent : Type 0 where
+  Missing : Referent
+  Found : (start order : ℕ) → Referent
+
+-- how the code says it
+abbrev pub as_referent : Option Block → Referent
+as_referent None = Missing
+as_referent (Some b) = Found b.start b.order
+
 abbrev pub missing : Referent → Bool
 missing Missing = true
 missing (Found s e) = false

@@ -1,12 +1,10 @@
 -- What the parts of the code say to each other of the address that is sought, the damage scan and the search by halves. Document 01 has none of it:
 -- the functions `referent_in`, `damaged` and `find_place` promise the definitions `referent_in`, `damaged_by` and `place_in`. Where `all_free` is given
 -- another test than that of free slots, it says that all of the slots pass it.
-use Rattle.std.specs.Prelude.{◌≡◌, ℕ, zero, suc, ◌+◌, ◌-◌, ◌*◌, ◌^◌, ◌<◌, ◌≤◌, Bool, false, cond, not, ◌&&◌, ◌||◌, List, length, ℤ, pos, negsuc, ◌==◌, nat_le}
-use Rattle.std.specs.Prelude.{slice_index}
+use Rattle.std.specs.Prelude.{◌≡◌, ℕ, zero, suc, ◌+◌, ◌-◌, ◌*◌, ◌/◌, ◌%◌, ◌^◌, ◌<◌, ◌≤◌, Bool, false, cond, not, ◌&&◌, ◌||◌, List, length, ℤ, pos}
+use Rattle.std.specs.Prelude.{negsuc, ◌==◌, nat_le, slice_index}
 use Rattle.blocks.specs.Tables.{entry_order, damaged_by, free_in}
-use Rattle.blocks.specs.Placing.{all_free, place_in}
-use Rattle.blocks.specs.declared.Place.{Place}
-use Rattle.blocks.specs.declared.Place.TheVariants.{At, Nothing}
+use Rattle.blocks.specs.Placing.{all_free, place_in, Place, At, Nothing}
 
 -- ---- the address that is sought
 -- How the code holds an exact address that may be negative: as 0 where it is, which lies below the arena like it.
@@ -18,6 +16,11 @@ from_zero (negsuc n) = 0
 -- slot i has the entry x
 abbrev pub has_entry : List ℕ → ℕ → ℕ → Bool
 has_entry s x i = slice_index s i == x
+
+-- r tells of the n first slots whether they pass the test that `post` computes of an entry
+abbrev pub Tells : (ℕ → Bool → Type 0) → List ℕ → ℕ → Bool → Type 0
+Tells post s n r =
+    (test : ℕ → Bool) → ((x : ℕ) (b : Bool) → x < 256 → post x b → b ≡ test x) → r ≡ all_free (λ i. test (slice_index s i)) 0 n
 
 -- the entry x speaks of its slot alone: the slot is free, or a block
 unfoldable pub single : ℕ → ℕ → Bool
@@ -41,6 +44,10 @@ bits_of f i (suc n) = cond (f i) 1 0 + 2 * bits_of f (suc i) n
 unfoldable pub key_of : Place → ℕ
 key_of Nothing = 1114112
 key_of (At s k) = k * 65536 + s
+
+-- the place that a key tells
+abbrev pub place_at : ℕ → Place
+place_at n = cond (n == 1114112) Nothing (At (n % 65536) (n / 65536))
 
 -- r answers for the part of order k at the slot `from`, whatever the slots outside it are: the part's free ones are the bits, and it is not all free
 abbrev pub SearchedBits : (t bits from k e r : ℕ) → Type 0

@@ -1,5 +1,5 @@
 -- The orders of an arena, that of its length, and the order that a get of n bytes needs.
-use Rattle.std.specs.Prelude.{ℕ, zero, suc, ◌-◌, ◌^◌, Bool, cond, ◌&&◌, ◌==◌, nat_le}
+use Rattle.std.specs.Prelude.{ℕ, zero, suc, ◌-◌, ◌^◌, Bool, cond, ◌&&◌, ◌==◌, nat_le, Option, Some, None}
 
 -- the orders of the smallest and of the largest arena
 abbrev pub smallest_arena : ℕ
@@ -19,6 +19,11 @@ order_from n (suc k) m = let r = order_from n k (suc m) in cond (n == 2 ^ m) m r
 -- the order m of an arena of n bytes; 0 where n is no such length
 unfoldable pub order_of : ℕ → ℕ
 order_of n = order_from n (suc largest_arena - smallest_arena) smallest_arena
+
+-- how the code says such a number: as none where it is 0
+abbrev pub unless_zero : ℕ → Option ℕ
+unless_zero zero = None
+unless_zero (suc k) = Some (suc k)
 
 -- of the orders from e on, the first with n at most its size; after k of them the next, whatever n
 abbrev pub needed_from : ℕ → ℕ → ℕ → ℕ

@@ -1,8 +1,17 @@
 -- Document 01, "Placing a block", over an arbitrary test `f i`: slot i is free. A slot has 2 ^ t bytes. An arena of order m has 2 ^ m bytes,
 -- so 2 ^ (m - t) slots, and begins at the slot `from`: a half of an arena is again one.
-use Rattle.std.specs.Prelude.{ℕ, zero, suc, ◌+◌, ◌-◌, ◌*◌, ◌/◌, ◌^◌, Bool, true, cond, not, ◌&&◌, ◌||◌, ◌==◌}
-use Rattle.blocks.specs.declared.Place.{Place}
-use Rattle.blocks.specs.declared.Place.TheVariants.{At, Nothing}
+use Rattle.std.specs.Prelude.{ℕ, zero, suc, ◌+◌, ◌-◌, ◌*◌, ◌/◌, ◌^◌, Bool, true, cond, not, ◌&&◌, ◌||◌, ◌==◌, Option, Some, None}
+use Rattle.blocks.specs.declared.Place.{Place as FoundPlace}
+
+-- a free range, by its first slot and its order, or none
+pub data Place : Type 0 where
+  At : (slot order : ℕ) → Place
+  Nothing : Place
+
+-- how the code says it
+abbrev pub as_place : Option FoundPlace → Place
+as_place None = Nothing
+as_place (Some p) = At p.slot p.order
 
 -- the n slots from i on are all free
 unfoldable pub all_free : (ℕ → Bool) → ℕ → ℕ → Bool

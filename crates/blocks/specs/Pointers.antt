@@ -3,9 +3,7 @@
 use Rattle.std.specs.Prelude.{ℕ, ◌+◌, ◌-◌, ◌/◌, ◌%◌, ◌^◌, Bool, true, false, cond, not, ◌&&◌, ◌||◌, ℤ, pos, negsuc, ◌+ℤ◌, ◌==◌, bit_xor, int_le, int_lt, nat_le}
 use Rattle.std.specs.Prelude.{nat_lt}
 use Rattle.std.proofs.Math.IntN.{sub_ℕ}
-use Rattle.blocks.specs.Blocks.{base}
-use Rattle.blocks.specs.declared.Referent.{Referent}
-use Rattle.blocks.specs.declared.Referent.TheVariants.{Missing, Found}
+use Rattle.blocks.specs.Blocks.{base, Referent, Missing, Found}
 
 -- the bit that marks a pointer
 abbrev pub mark_bit : ℕ

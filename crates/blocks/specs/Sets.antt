@@ -2,10 +2,8 @@
 -- stands for.
 use Rattle.std.specs.Prelude.{◌≡◌, ℕ, zero, suc, ◌+◌, ◌-◌, ◌*◌, ◌%◌, ◌^◌, Bool, true, false, cond, not, ◌&&◌, List, [], ◌∷◌, length, ◌==◌, slice_index}
 use mathlib.Core.List.{Memᴰ}
-use Rattle.blocks.specs.Blocks.{base, Block, holds, Aligned, order_in}
+use Rattle.blocks.specs.Blocks.{base, Block, holds, Aligned, order_in, Referent, Missing, Found}
 use Rattle.blocks.specs.Tables.{entry_order, entry_locked, entry_of, damaged_by}
-use Rattle.blocks.specs.declared.Referent.{Referent}
-use Rattle.blocks.specs.declared.Referent.TheVariants.{Missing, Found}
 
 -- a block of a set, and whether it is locked
 pub record Pair : Type 0 where

@@ -1,9 +1,7 @@
 -- Document 01, "Blocks and their table", with request 7 of document 02: the table of an arena of 2 ^ m bytes with slots of 2 ^ t bytes. An entry is 0 for
 -- a free slot, else it says the order e of the block that has the slot, 2 ^ (e - t) slots in all, and whether the block is locked.
 use Rattle.std.specs.Prelude.{ℕ, zero, suc, ◌+◌, ◌-◌, ◌/◌, ◌^◌, Bool, false, cond, not, ◌&&◌, ◌||◌, List, length, ◌==◌, nat_le, nat_lt, slice_index}
-use Rattle.blocks.specs.Blocks.{base, floor}
-use Rattle.blocks.specs.declared.Referent.{Referent}
-use Rattle.blocks.specs.declared.Referent.TheVariants.{Missing, Found}
+use Rattle.blocks.specs.Blocks.{base, floor, Referent, Missing, Found}
 
 -- some k below n passes the test
 unfoldable pub any : ℕ → (ℕ → Bool) → Bool

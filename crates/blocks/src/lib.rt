@@ -2,15 +2,12 @@
 #![tactic(auto)]
 
 ghost use Rattle.std.specs.Prelude.{◌≡◌, ◌+◌, ◌-◌, ◌^◌, ◌<◌, ◌≤◌, false, length, pos};
-ghost use Rattle.blocks.specs.Blocks.{floor, holds};
-ghost use Rattle.blocks.specs.Orders.{order_of, needed_order};
+ghost use Rattle.blocks.specs.Blocks.{Found, as_referent, floor, holds};
+ghost use Rattle.blocks.specs.Orders.{order_of, unless_zero, needed_order};
 ghost use Rattle.blocks.specs.Inner.{from_zero};
 ghost use Rattle.blocks.specs.Tables.{entry_order, entry_of, damaged_by, free_in, locked_in, referent_in};
-ghost use Rattle.blocks.specs.Placing.{place_in};
+ghost use Rattle.blocks.specs.Placing.{as_place, place_in};
 ghost use Rattle.blocks.specs.Pointers.{sought, outside_at, marked, address, exact_sum, wrapped_sum, check_bits, within};
-
-use common::wide;
-use search::{KEYS, NOWHERE};
 
 mod scan;
 mod search;
@@ -23,46 +20,40 @@ pub const MARK: u32 = 2147483648;
 // The top bit of an entry, which says that the block is locked.
 const LOCK: u32 = 128;
 
-// The smallest and the largest order of an arena, and the length of the smallest.
+// The smallest and the largest order of an arena.
 pub const SMALLEST_ARENA: u32 = 5;
 
 pub const LARGEST_ARENA: u32 = 16;
-
-const MIN_LENGTH: usize = 32;
 
 // A row: as many slots as are compared at a time, and by how much the order of a block that has as many is above that of a slot.
 const ROW: usize = 16;
 
 const ROW_LEVELS: u32 = 4;
 
-// The block that a pointer refers to, by its start and order.
-#[derive(Clone, Copy)]
-pub enum Referent {
-    Missing,
-    Found(u32, u32),
+// A block, by the address of its first byte and its order: it has 2^order bytes.
+#[derive(Clone, Copy, Debug, PartialEq, Eq)]
+pub struct Block {
+    pub start: u32,
+    pub order: u32,
 }
 
 // A free range, by its first slot and its order.
-#[derive(Clone, Copy)]
-pub enum Place {
-    At { slot: usize, order: u32 },
-    Nothing,
+#[derive(Clone, Copy, Debug, PartialEq, Eq)]
+pub struct Place {
+    pub slot: usize,
+    pub order: u32,
 }
 
-// The order m of an arena of `len` bytes, or 0 where no arena has that length.
-pub fn order_of(len: usize) -> u32
-    ensures { result ≡ order_of len }
+// The order m of an arena of `len` bytes, if some arena has that length.
+pub fn order_of(len: usize) -> Option<u32>
+    ensures { result ≡ unless_zero (order_of len) }
 {
-    let mut m = SMALLEST_ARENA;
-    let mut size = MIN_LENGTH;
-    while m <= LARGEST_ARENA {
-        if len == size {
-            return m;
+    for m in SMALLEST_ARENA..=LARGEST_ARENA {
+        if len == size_of(m) as usize {
+            return Some(m);
         }
-        m += 1;
-        size = size * 2;
     }
-    0
+    None
 }
 
 pub fn size_of(e: u32) -> u32
@@ -76,7 +67,7 @@ pub fn size_of(e: u32) -> u32
 pub fn order_in(x: u8) -> u32
     ensures { result ≡ entry_order x }
 {
-    wide(x) % LOCK
+    u32::from(x) % LOCK
 }
 
 // The entry of a block's slots.
@@ -84,10 +75,7 @@ pub fn entry_of(e: u32, locked: bool) -> u8
     requires { e ≤ 16 }
     ensures { result ≡ entry_of e locked }
 {
-    if locked {
-        return ((LOCK + e) % 256) as u8;
-    }
-    (e % 256) as u8
+    if locked { (LOCK + e) as u8 } else { e as u8 }
 }
 
 // How many slots a block of order e has.
@@ -103,14 +91,12 @@ pub fn needed_order(t: u32, m: u32, n: u32) -> u32
     requires { (t ≤ m) × (m ≤ 16) }
     ensures { result ≡ needed_order t m n }
 {
-    let mut e = t;
-    while e < m {
+    for e in t..m {
         if n <= size_of(e) {
             return e;
         }
-        e += 1;
     }
-    e
+    m
 }
 
 // Whether r lies in the aligned block of 2^e that holds h.
@@ -126,7 +112,7 @@ pub fn same_block(h: u32, r: u32, e: u32) -> bool
 pub fn passes(h: u32, q: u32, i: u32, e: u32) -> bool
     requires { e < 32 }
     ensures by_bits { result ≡ check_bits e h (wrapped_sum q i) }
-    ensures by_range { h < 2 ^ 31 → q < 2 ^ 31 → result ≡ within (Referent.Found (floor e h) e) (exact_sum q i) }
+    ensures by_range { h < 2 ^ 31 → q < 2 ^ 31 → result ≡ within (Found (floor e h) e) (exact_sum q i) }
 {
     same_block(h, std::num::wrapping_add_u32(q, i), e)
 }
@@ -163,26 +149,26 @@ pub fn sought_address(t: u32, p: u32) -> u32
 }
 
 // The block that holds the address q, by an undamaged table.
-pub fn referent_in(table: &[u8], t: u32, m: u32, q: u32) -> Referent
+pub fn referent_in(table: &[u8], t: u32, m: u32, q: u32) -> Option<Block>
     requires { (1 ≤ t) × (t ≤ m) × (m ≤ 16) × (length table.now ≡ 2 ^ (m - t)) × (damaged_by t m table.now ≡ false) }
-    ensures { result ≡ referent_in t table.now q }
+    ensures { as_referent result ≡ referent_in t table.now q }
 {
     if q < BASE {
-        return Referent::Missing;
+        return None;
     }
     let x = q - BASE;
     let i = (x >> t) as usize;
     if table.len() <= i {
-        return Referent::Missing;
+        return None;
     }
     let entry = table[i];
     if entry == 0 {
-        return Referent::Missing;
+        return None;
     }
     let e = order_in(entry);
     let size = size_of(e);
     let start = BASE + x / size * size;
-    Referent::Found(start, e)
+    Some(Block { start, order: e })
 }
 
 // Whether the block that holds the address q is locked. The tests are those of `referent_in`, so that the compiler makes them once.
@@ -197,7 +183,7 @@ pub fn is_locked(table: &[u8], t: u32, q: u32) -> bool
     if table.len() <= i {
         return false;
     }
-    LOCK <= wide(table[i])
+    LOCK <= u32::from(table[i])
 }
 
 // Whether the address q lies outside the arena of this table. The tests are those by which `referent_in` finds no slot, so that the compiler makes them
@@ -228,16 +214,9 @@ pub fn damaged(table: &[u8], t: u32, m: u32) -> bool
 
 // The place for a block of order e in an arena of order m with an undamaged table: the maximal free range of the smallest order that is at
 // least e, of equals the lowest.
-pub fn find_place(table: &[u8], t: u32, m: u32, e: u32) -> Place
+pub fn find_place(table: &[u8], t: u32, m: u32, e: u32) -> Option<Place>
     requires { (1 ≤ t) × (t ≤ e) × (e ≤ m) × (m ≤ 16) × (length table.now ≡ 2 ^ (m - t)) × (damaged_by t m table.now ≡ false) }
-    ensures { result ≡ place_in (free_in table.now) t 0 m e }
+    ensures { as_place result ≡ place_in (free_in table.now) t 0 m e }
 {
-    let found = search::place_key(table, t, m, e);
-    if found == NOWHERE {
-        return Place::Nothing;
-    }
-    Place::At {
-        slot: (found % KEYS) as usize,
-        order: found / KEYS,
-    }
+    search::place_key(table, t, m, e).place()
 }

@@ -1,18 +1,15 @@
 -- Flat records and takes' records, each from the other.
-use Prim.Native.Nat.{ℕ, ◌≤◌, ◌<◌}
-use mathlib.Core.Path.{◌≡◌, refl, sym, ◌∙◌, ap}
-use mathlib.Core.List.{List}
-use mathlib.Core.Option.{none}
-use borrow.Author.Tests.{le-leb, lt-leb}
-use Rattle.heap.specs.OperationNumbers.{last_operation}
-use Rattle.takes.proofs.Operations.{known-numbers}
-use Rattle.takes.specs.Reading.{Given, given}
-use Rattle.takes.specs.Writing.{WriteOutcome, write_record}
+use Rattle.std.proofs.Common.{◌≡◌, ℕ, true, false, List, Result, Ok, Err, refl, ◌∙◌, ap, subst}
+use Rattle.common.specs.declared.reasons.Refusal.{Refusal as Reason}
+use Rattle.heap.specs.Answers.{answer_of}
+use Rattle.heap.specs.OperationNumbers.{is_operation, number_of}
+use Rattle.heap.specs.declared.operations.Operation.{Operation}
+use Rattle.takes.specs.Operations.{known}
+use Rattle.takes.specs.Writing.{WriteOutcome, written_of, write_outcome, write_record}
 use Rattle.takes.specs.declared.Record.{Record}
 use Rattle.takes.specs.declared.Record.TheVariants.{Get, Give, Step, Read, Write, Left, Copy, Fill, Lock, Unlock, Again, Set, Grid}
-use Rattle.takes.specs.declared.Reading.{Reading}
-use Rattle.takes.specs.declared.Reading.TheVariants.{Found, Refused}
-use Rattle.cabi.specs.Flat.{flat, flat_found, flat_reading, record_from_flat, unknown, write_flat}
+use Rattle.takes.proofs.Operations.{known-numbers, known-operation}
+use Rattle.cabi.specs.Flat.{flat, record_as, record_from_flat, write_outcome_by, unknown, write_flat}
 use Rattle.cabi.specs.declared.FlatRecord.{FlatRecord}
 
 -- a record that C reads is the one that it writes back
@@ -36,28 +33,20 @@ grid-fields : let f = flat (Grid 1 2 3 4 5 6) in
     (f.d ≡ 1) × (f.a ≡ 2) × (f.rows ≡ 3) × (f.columns ≡ 4) × (f.row ≡ 5) × (f.column ≡ 6)
 grid-fields = (refl, refl, refl, refl, refl, refl)
 
-module _ {g : Given} (reading : Reading) where
-  pub found-is : (r : Record) (next : ℕ) (f : FlatRecord) → given reading ≡ g → reading ≡ Found r next → f ≡ flat r
-      → record { number = 0; item = f; next = next } ≡ flat_reading g
-  found-is r next f e q p =
-      ap (λ (x : FlatRecord). record { number = 0; item = x; next = next }) p ∙ sym (ap (λ (x : Reading). flat_reading (given x)) q) ∙ ap flat_reading e
-
-  pub refused-is : (n : ℕ) (f : FlatRecord) → given reading ≡ g → reading ≡ Refused n → f ≡ flat_found none
-      → record { number = n; item = f; next = 0 } ≡ flat_reading g
-  refused-is n f e q p =
-      ap (λ (x : FlatRecord). record { number = n; item = x; next = 0 }) p ∙ sym (ap (λ (x : Reading). flat_reading (given x)) q) ∙ ap flat_reading e
-
 module _ (f : FlatRecord) (out : List ℕ) where
-  pub below-is : f.operation < 1 → unknown out ≡ write_flat f out
+  pub unknown-is : is_operation f.operation ≡ false → unknown out ≡ write_flat f out
   unfolding write_flat
-  below-is l = rw (known-numbers f.operation, lt-leb 1 f.operation l)
+  unknown-is n = rw (known-numbers f.operation, n)
 
-  pub above-is : 1 ≤ f.operation → last_operation < f.operation → unknown out ≡ write_flat f out
-  unfolding write_flat
-  above-is k l = rw (known-numbers f.operation, le-leb 1 f.operation k, lt-leb f.operation last_operation l)
-
-  pub known_is : 1 ≤ f.operation → f.operation ≤ last_operation → {r : Record} {s : WriteOutcome} → r ≡ record_from_flat f → s ≡ write_record r out
+  pub known_is : (o : Operation) → number_of o ≡ f.operation → {r : Record} {s : WriteOutcome} → r ≡ record_as (number_of o) f → s ≡ write_record r out
       → s ≡ write_flat f out
   unfolding write_flat
-  known_is k l e q =
-      q ∙ ap (λ (x : Record). write_record x out) e ∙ rw (known-numbers f.operation, le-leb 1 f.operation k, le-leb f.operation last_operation l)
+  known_is o n {r} {s} e q =
+      let k : known f.operation ≡ true = subst (λ (op : ℕ). known op ≡ true) n (known-operation o) in
+      let same : r ≡ record_from_flat f = e ∙ ap (λ (op : ℕ). record_as op f) n in
+      q ∙ (ap (λ (x : Record). write_record x out) same ∙ rw k)
+
+-- the writer's answer, as C has it
+pub counted : (x : Result ℕ Reason) (out : List ℕ) → write_outcome_by (answer_of x) out ≡ write_outcome (written_of x) out
+counted (Ok n) out = refl
+counted (Err reason) out = refl

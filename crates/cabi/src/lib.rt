@@ -3,6 +3,9 @@
 #![tactic(auto)]
 
 ghost use Rattle.std.specs.Prelude.{◌≡◌, ◌≤◌, true, false, length};
+ghost use Rattle.common.specs.Numbers.{number_in};
+ghost use Rattle.heap.specs.Answers.{answer_of};
+ghost use Rattle.heap.specs.OperationNumbers.{number_of};
 ghost use Rattle.heap.specs.Heaps.{heap_of, outcome, heap_call, heap_fresh, heap_check};
 ghost use Rattle.heap.specs.Registers.{put_to, put_in};
 ghost use Rattle.heap.specs.declared.Call.TheVariants.{Get, Give, Step, Read, Write, Left, Copy, Fill, SetLock, Grid};
@@ -12,14 +15,26 @@ ghost use Rattle.runner.specs.Budgets.{Counted};
 ghost use Rattle.takes.specs.Files.{records_of};
 ghost use Rattle.takes.specs.Reading.{read_at};
 ghost use Rattle.takes.specs.Writing.{write_head};
-ghost use Rattle.cabi.specs.Flat.{flat_of, flat_grid, flat, flat_reading, record_from_flat, write_outcome_by, write_flat};
+ghost use Rattle.cabi.specs.Flat.{flat_of, flat_grid, flat, flat_reading, record_as, write_outcome_by, write_flat};
 ghost use Rattle.cabi.specs.Parts.{part_of};
 
 use blocks::BASE;
+use common::Refusal;
+use heap::Answer;
+use heap::operations::Operation;
 use heap::registers::Registers;
-use heap::{Answer, operations};
 use runner::Ran;
-use takes::{Reading, Record};
+use takes::Record;
+
+// The number of a refusal, 0 where there is none.
+fn number_in(outcome: Result<(), Refusal>) -> u32
+    ensures { result ≡ number_in outcome }
+{
+    match outcome {
+        Ok(()) => 0,
+        Err(reason) => u32::from(reason),
+    }
+}
 
 // A part of the lent arena, by its offset: an exported function returns no reference.
 #[repr(C)]
@@ -32,7 +47,7 @@ pub struct Part {
 
 // A record without cases, as C has no enum with data. A field that the operation lacks is 0.
 #[repr(C)]
-#[derive(Clone, Copy)]
+#[derive(Clone, Copy, Default)]
 pub struct FlatRecord {
     pub operation: u8,
     pub d: u8,
@@ -60,77 +75,77 @@ pub struct FlatReading {
 pub extern "C" fn tulivombe_fresh(arena: &mut [u8], table: &mut [u8]) -> Answer
     ensures { outcome result arena.new table.new ≡ heap_fresh (heap_of arena.old table.old) }
 {
-    heap::fresh(arena, table)
+    Answer::from(heap::fresh(arena, table))
 }
 
 #[unsafe(no_mangle)]
 pub extern "C" fn tulivombe_get(arena: &mut [u8], table: &mut [u8], n: u32) -> Answer
     ensures { outcome result arena.new table.new ≡ heap_call (Get n) (heap_of arena.old table.old) }
 {
-    heap::get(arena, table, n)
+    Answer::from(heap::get(arena, table, n))
 }
 
 #[unsafe(no_mangle)]
 pub extern "C" fn tulivombe_give(arena: &[u8], table: &mut [u8], p: u32) -> Answer
     ensures { outcome result arena.now table.new ≡ heap_call (Give p) (heap_of arena.now table.old) }
 {
-    heap::give(arena, table, p)
+    Answer::from(heap::give(arena, table, p))
 }
 
 #[unsafe(no_mangle)]
 pub extern "C" fn tulivombe_step(arena: &[u8], table: &[u8], p: u32, i: u32) -> Answer
     ensures { outcome result arena.now table.now ≡ heap_call (Step p i) (heap_of arena.now table.now) }
 {
-    heap::step(arena, table, p, i)
+    Answer::from(heap::step(arena, table, p, i))
 }
 
 #[unsafe(no_mangle)]
 pub extern "C" fn tulivombe_read(arena: &[u8], table: &[u8], p: u32, w: u8) -> Answer
     ensures { outcome result arena.now table.now ≡ heap_call (Read p w) (heap_of arena.now table.now) }
 {
-    heap::read(arena, table, p, w)
+    Answer::from(heap::read(arena, table, p, w))
 }
 
 #[unsafe(no_mangle)]
 pub extern "C" fn tulivombe_write(arena: &mut [u8], table: &[u8], p: u32, w: u8, v: u32) -> Answer
     ensures { outcome result arena.new table.now ≡ heap_call (Write p w v) (heap_of arena.old table.now) }
 {
-    heap::write(arena, table, p, w, v)
+    Answer::from(heap::write(arena, table, p, w, v))
 }
 
 #[unsafe(no_mangle)]
 pub extern "C" fn tulivombe_left(arena: &[u8], table: &[u8], p: u32) -> Answer
     ensures { outcome result arena.now table.now ≡ heap_call (Left p) (heap_of arena.now table.now) }
 {
-    heap::left(arena, table, p)
+    Answer::from(heap::left(arena, table, p))
 }
 
 #[unsafe(no_mangle)]
 pub extern "C" fn tulivombe_copy(arena: &mut [u8], table: &[u8], p: u32, q: u32, n: u32) -> Answer
     ensures { outcome result arena.new table.now ≡ heap_call (Copy p q n) (heap_of arena.old table.now) }
 {
-    heap::copy(arena, table, p, q, n)
+    Answer::from(heap::copy(arena, table, p, q, n))
 }
 
 #[unsafe(no_mangle)]
 pub extern "C" fn tulivombe_fill(arena: &mut [u8], table: &[u8], p: u32, v: u8, n: u32) -> Answer
     ensures { outcome result arena.new table.now ≡ heap_call (Fill p v n) (heap_of arena.old table.now) }
 {
-    heap::fill(arena, table, p, v, n)
+    Answer::from(heap::fill(arena, table, p, v, n))
 }
 
 #[unsafe(no_mangle)]
 pub extern "C" fn tulivombe_lock(arena: &[u8], table: &mut [u8], p: u32) -> Answer
     ensures { outcome result arena.now table.new ≡ heap_call (SetLock p true) (heap_of arena.now table.old) }
 {
-    heap::lock(arena, table, p)
+    Answer::from(heap::lock(arena, table, p))
 }
 
 #[unsafe(no_mangle)]
 pub extern "C" fn tulivombe_unlock(arena: &[u8], table: &mut [u8], p: u32) -> Answer
     ensures { outcome result arena.now table.new ≡ heap_call (SetLock p false) (heap_of arena.now table.old) }
 {
-    heap::unlock(arena, table, p)
+    Answer::from(heap::unlock(arena, table, p))
 }
 
 #[unsafe(no_mangle)]
@@ -146,14 +161,14 @@ pub extern "C" fn tulivombe_grid(
     ensures { outcome result arena.now table.now
         ≡ heap_call (Grid p rows columns row column) (heap_of arena.now table.now) }
 {
-    heap::grid(arena, table, p, rows, columns, row, column)
+    Answer::from(heap::grid(arena, table, p, rows, columns, row, column))
 }
 
 #[unsafe(no_mangle)]
 pub extern "C" fn tulivombe_check(arena: &[u8], table: &[u8], p: u32, i: u32) -> Answer
     ensures { result ≡ heap_check p i (heap_of arena.now table.now) }
 {
-    heap::check(arena, table, p, i)
+    Answer::from(heap::check(arena, table, p, i))
 }
 
 // Where the part that show hands back lies in the arena, and its number, by what left answers: one scan of the table is enough.
@@ -161,19 +176,17 @@ pub extern "C" fn tulivombe_check(arena: &[u8], table: &[u8], p: u32, i: u32) ->
 pub extern "C" fn tulivombe_show(arena: &[u8], table: &[u8], p: u32) -> Part
     ensures { result ≡ part_of p (heap_of arena.now table.now) }
 {
-    let left = heap::left(arena, table, p);
-    let number = left.number;
-    if number != 0 {
-        return Part {
-            number,
+    match heap::left(arena, table, p) {
+        Ok(length) => Part {
+            number: 0,
+            offset: p - BASE,
+            length,
+        },
+        Err(reason) => Part {
+            number: u32::from(reason),
             offset: 0,
             length: 0,
-        };
-    }
-    Part {
-        number: 0,
-        offset: p - BASE,
-        length: left.value,
+        },
     }
 }
 
@@ -190,7 +203,7 @@ pub extern "C" fn tulivombe_run(
     ensures counted { result.number ≡ 0
         → Counted file.now budget answers.old (ran_to result arena.new table.new answers.new) }
 {
-    runner::run(file, arena, table, answers, budget)
+    Ran::from(runner::run(file, arena, table, answers, budget))
 }
 
 #[unsafe(no_mangle)]
@@ -212,7 +225,7 @@ pub extern "C" fn tulivombe_run_panel(
     ensures counted { result.number ≡ 0
         → Counted file.now budget answers.old (ran_to result arena.new table.new answers.new) }
 {
-    runner::run_panel(file, arena, table, answers, budget)
+    Ran::from(runner::run_panel(file, arena, table, answers, budget))
 }
 
 // The one exported function that is lent a struct.
@@ -220,7 +233,7 @@ pub extern "C" fn tulivombe_run_panel(
 pub extern "C" fn tulivombe_put_register(registers: &mut Registers, d: u8, v: u32) -> u32
     ensures { put_to result registers.new.values ≡ put_in d v registers.old.values }
 {
-    heap::registers::put(registers, d, v)
+    number_in(heap::registers::put(registers, d, v))
 }
 
 #[unsafe(no_mangle)]
@@ -233,25 +246,30 @@ pub extern "C" fn tulivombe_replay(
     ensures { replayed result arena.new table.new out.new
         ≡ replay_of calls.now (heap_of arena.old table.old) out.old }
 {
-    history::replay(arena, table, calls, out)
+    number_in(history::replay(arena, table, calls, out))
 }
 
 // A flat record of these fields, in the struct's order, that is no grid.
-fn flat_record(operation: u8, d: u8, a: u8, b: u8, byte: u8, index: u16, word: u32) -> FlatRecord
-    ensures { result ≡ flat_of operation d a b byte index word }
+fn flat_record(
+    operation: Operation,
+    d: u8,
+    a: u8,
+    b: u8,
+    byte: u8,
+    index: u16,
+    word: u32,
+) -> FlatRecord
+    ensures { result ≡ flat_of (number_of operation) d a b byte index word }
 {
     FlatRecord {
-        operation,
+        operation: operation as u8,
         d,
         a,
         b,
         byte,
         index,
         word,
-        rows: 0,
-        columns: 0,
-        row: 0,
-        column: 0,
+        ..FlatRecord::default()
     }
 }
 
@@ -259,38 +277,37 @@ fn flat_grid(d: u8, a: u8, rows: u8, columns: u8, row: u8, column: u8) -> FlatRe
     ensures { result ≡ flat_grid d a rows columns row column }
 {
     FlatRecord {
-        operation: 13,
+        operation: Operation::Grid as u8,
         d,
         a,
-        b: 0,
-        byte: 0,
-        index: 0,
-        word: 0,
         rows,
         columns,
         row,
         column,
+        ..FlatRecord::default()
     }
 }
 
-fn flattened(r: Record) -> FlatRecord
-    ensures { result ≡ flat r }
-{
-    match r {
-        Record::Get(d, n) => flat_record(1, d, 0, 0, 0, 0, n),
-        Record::Give(a) => flat_record(2, 0, a, 0, 0, 0, 0),
-        Record::Step(d, a, i) => flat_record(3, d, a, 0, 0, 0, i),
-        Record::Read(d, a, w) => flat_record(4, d, a, 0, w, 0, 0),
-        Record::Write(a, w, v) => flat_record(5, 0, a, 0, w, 0, v),
-        Record::Left(d, a) => flat_record(6, d, a, 0, 0, 0, 0),
-        Record::Copy(d, a, b, n) => flat_record(7, d, a, b, 0, 0, n),
-        Record::Fill(d, a, v, n) => flat_record(8, d, a, 0, v, 0, n),
-        Record::Lock(a) => flat_record(9, 0, a, 0, 0, 0, 0),
-        Record::Unlock(a) => flat_record(10, 0, a, 0, 0, 0, 0),
-        Record::Again(d, k) => flat_record(11, d, 0, 0, 0, k, 0),
-        Record::Set(d, n) => flat_record(12, d, 0, 0, 0, 0, n),
-        Record::Grid(d, a, rows, columns, row, column) => {
-            flat_grid(d, a, rows, columns, row, column)
+impl From<Record> for FlatRecord {
+    ghost from_gives = { λ r f. f ≡ flat r };
+
+    fn from(r: Record) -> FlatRecord {
+        match r {
+            Record::Get(d, n) => flat_record(Operation::Get, d, 0, 0, 0, 0, n),
+            Record::Give(a) => flat_record(Operation::Give, 0, a, 0, 0, 0, 0),
+            Record::Step(d, a, i) => flat_record(Operation::Step, d, a, 0, 0, 0, i),
+            Record::Read(d, a, w) => flat_record(Operation::Read, d, a, 0, w, 0, 0),
+            Record::Write(a, w, v) => flat_record(Operation::Write, 0, a, 0, w, 0, v),
+            Record::Left(d, a) => flat_record(Operation::Left, d, a, 0, 0, 0, 0),
+            Record::Copy(d, a, b, n) => flat_record(Operation::Copy, d, a, b, 0, 0, n),
+            Record::Fill(d, a, v, n) => flat_record(Operation::Fill, d, a, 0, v, 0, n),
+            Record::Lock(a) => flat_record(Operation::Lock, 0, a, 0, 0, 0, 0),
+            Record::Unlock(a) => flat_record(Operation::Unlock, 0, a, 0, 0, 0, 0),
+            Record::Again(d, k) => flat_record(Operation::Again, d, 0, 0, 0, k, 0),
+            Record::Set(d, n) => flat_record(Operation::Set, d, 0, 0, 0, 0, n),
+            Record::Grid(d, a, rows, columns, row, column) => {
+                flat_grid(d, a, rows, columns, row, column)
+            }
         }
     }
 }
@@ -299,16 +316,15 @@ fn flattened(r: Record) -> FlatRecord
 pub extern "C" fn tulivombe_read_record(file: &[u8], at: usize) -> FlatReading
     ensures { result ≡ flat_reading (read_at file.now at) }
 {
-    let reading = takes::read(file, at);
-    match reading {
-        Reading::Found(r, next) => FlatReading {
+    match takes::read(file, at) {
+        Ok(reading) => FlatReading {
             number: 0,
-            item: flattened(r),
-            next,
+            item: FlatRecord::from(reading.record),
+            next: reading.next,
         },
-        Reading::Refused(number) => FlatReading {
-            number,
-            item: flat_record(0, 0, 0, 0, 0, 0, 0),
+        Err(reason) => FlatReading {
+            number: u32::from(reason),
+            item: FlatRecord::default(),
             next: 0,
         },
     }
@@ -318,56 +334,41 @@ pub extern "C" fn tulivombe_read_record(file: &[u8], at: usize) -> FlatReading
 pub extern "C" fn tulivombe_write_head(out: &mut [u8], m: u32) -> Answer
     ensures { write_outcome_by result out.new ≡ write_head m out.old }
 {
-    let w = takes::write_head(out, m);
-    Answer {
-        number: w.number,
-        value: w.count,
-    }
+    Answer::from(takes::write_head(out, m))
 }
 
-// The record of an operation of the table, a grid for any other number.
-fn structured(f: FlatRecord) -> Record
-    ensures { result ≡ record_from_flat f }
+// The record of an operation, by the fields that it has.
+fn structured(operation: Operation, f: FlatRecord) -> Record
+    ensures { result ≡ record_as (number_of operation) f }
 {
-    let operation = f.operation;
     match operation {
-        1 => Record::Get(f.d, f.word),
-        2 => Record::Give(f.a),
-        3 => Record::Step(f.d, f.a, f.word),
-        4 => Record::Read(f.d, f.a, f.byte),
-        5 => Record::Write(f.a, f.byte, f.word),
-        6 => Record::Left(f.d, f.a),
-        7 => Record::Copy(f.d, f.a, f.b, f.word),
-        8 => Record::Fill(f.d, f.a, f.byte, f.word),
-        9 => Record::Lock(f.a),
-        10 => Record::Unlock(f.a),
-        11 => Record::Again(f.d, f.index),
-        12 => Record::Set(f.d, f.word),
-        _ => Record::Grid(f.d, f.a, f.rows, f.columns, f.row, f.column),
+        Operation::Get => Record::Get(f.d, f.word),
+        Operation::Give => Record::Give(f.a),
+        Operation::Step => Record::Step(f.d, f.a, f.word),
+        Operation::Read => Record::Read(f.d, f.a, f.byte),
+        Operation::Write => Record::Write(f.a, f.byte, f.word),
+        Operation::Left => Record::Left(f.d, f.a),
+        Operation::Copy => Record::Copy(f.d, f.a, f.b, f.word),
+        Operation::Fill => Record::Fill(f.d, f.a, f.byte, f.word),
+        Operation::Lock => Record::Lock(f.a),
+        Operation::Unlock => Record::Unlock(f.a),
+        Operation::Again => Record::Again(f.d, f.index),
+        Operation::Set => Record::Set(f.d, f.word),
+        Operation::Grid => Record::Grid(f.d, f.a, f.rows, f.columns, f.row, f.column),
     }
 }
 
-// C can name an operation that no record has: that is number 5.
+// C can name an operation that no record has.
+fn write_flat(out: &mut [u8], item: FlatRecord) -> Result<u32, Refusal>
+    ensures { write_outcome_by (answer_of result) out.new ≡ write_flat item out.old }
+{
+    let operation = Operation::try_from(item.operation)?;
+    takes::write_record(out, structured(operation, item))
+}
+
 #[unsafe(no_mangle)]
 pub extern "C" fn tulivombe_write_record(out: &mut [u8], item: FlatRecord) -> Answer
     ensures { write_outcome_by result out.new ≡ write_flat item out.old }
 {
-    let operation = item.operation;
-    if operation < 1 {
-        return Answer {
-            number: 5,
-            value: 0,
-        };
-    }
-    if operations::LAST < operation {
-        return Answer {
-            number: 5,
-            value: 0,
-        };
-    }
-    let w = takes::write_record(out, structured(item));
-    Answer {
-        number: w.number,
-        value: w.count,
-    }
+    Answer::from(write_flat(out, item))
 }

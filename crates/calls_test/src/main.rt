@@ -3,29 +3,35 @@
 // then on, `poke I V` sets entry I of the table to V, `arena` and `table` print a buffer. What stands after a line's numbers is passed over.
 #![tactic(auto)]
 
-ghost use Rattle.std.specs.Prelude.{◌+◌, ◌≤◌, ◌<◌, length};
-ghost use Rattle.calls_test.specs.Bounds.{Past, arena_most, table_most, Lendable};
+ghost use Rattle.std.specs.Prelude.{◌≤◌, ◌<◌, length, OnSome};
+ghost use Rattle.calls_test.specs.declared.TheConstants.{ARENA, TABLE};
 
-use heap::{Answer, SLOT_ORDER};
-use std::io;
+use blocks::LARGEST_ARENA;
+use common::Refusal;
+use heap::{Answer, Call, SLOT_ORDER};
+use std::fmt::{Display, Formatter};
 use std::io::{BufWriter, Read, Write};
+use std::{fmt, io};
 
 // The lengths of the largest arena and its table, and how much text is read.
-const ARENA: usize = 65536;
+const ARENA: usize = 1 << LARGEST_ARENA;
 
-const TABLE: usize = 4096;
+const TABLE: usize = ARENA >> SLOT_ORDER;
 
 const TEXT: usize = 20480;
 
-// A line's word, by its first two bytes as one number, and the five numbers after it.
+// What a line asks for, with those of its numbers that it needs.
 #[derive(Clone, Copy)]
-struct Line {
-    word: u32,
-    a: u32,
-    b: u32,
-    c: u32,
-    d: u32,
-    e: u32,
+enum Command {
+    Heap { order: u32 },
+    Only { arena: u32, table: u32 },
+    Poke { entry: u32, value: u8 },
+    Show(u32),
+    Arena,
+    Table,
+    Fresh,
+    Call(Call),
+    Check(u32, u32),
 }
 
 // How many bytes of the arena and of the table are lent.
@@ -33,194 +39,193 @@ struct Line {
 struct Lent {
     arena: usize,
     table: usize,
+    ghost arena_fits: { arena ≤ ARENA },
+    ghost table_fits: { table ≤ TABLE },
 }
 
+// The lowest byte of a number. No `TryFrom`, since the rest is let go.
 fn low(x: u32) -> u8 {
-    (x % 256) as u8
+    (x & 0xff) as u8
 }
 
-// The place after the first `stop` from `from` on, or the end.
-fn past(text: &[u8], from: usize, stop: u8) -> usize
-    requires { from ≤ length text.now }
-    ensures { Past from result (length text.now) }
-{
-    let mut at = from;
-    while at < text.len() {
-        if text[at] == stop {
-            return at + 1;
+// The decimal number that a text begins with, modulo 2^32; 0 where it begins with none.
+fn number(text: &[u8]) -> u32 {
+    text.iter()
+        .map_while(|&byte| char::from(byte).to_digit(10))
+        .fold(0u32, |sum, digit| sum.wrapping_mul(10).wrapping_add(digit))
+}
+
+// The numbers after the first five spaces of a text, 0 where it has fewer: a line with fewer has some of its numbers from the lines that follow it.
+fn numbers(text: &[u8]) -> [u32; 5] {
+    let mut numbers = [0u32; 5];
+    let words = text.split(|&byte| byte == b' ').skip(1);
+    for (n, word) in numbers.iter_mut().zip(words) {
+        *n = number(word);
+    }
+    numbers
+}
+
+impl Command {
+    // The command of the line that a text begins with, by the first two bytes of its word. There is none in fewer than two bytes, and a word that names none
+    // is a check.
+    fn parse(text: &[u8]) -> Option<Command>
+        ensures { OnSome result (0 < length text.now) }
+    {
+        let word = text.first_chunk::<2>()?;
+        let [a, b, c, d, e] = numbers(text);
+        Some(match word {
+            b"he" => Command::Heap { order: a },
+            b"on" => Command::Only { arena: a, table: b },
+            b"po" => Command::Poke {
+                entry: a,
+                value: low(b),
+            },
+            b"sh" => Command::Show(a),
+            b"ar" => Command::Arena,
+            b"ta" => Command::Table,
+            b"fr" => Command::Fresh,
+            b"ge" => Command::Call(Call::Get(a)),
+            b"gi" => Command::Call(Call::Give(a)),
+            b"st" => Command::Call(Call::Step(a, b)),
+            b"re" => Command::Call(Call::Read(a, low(b))),
+            b"wr" => Command::Call(Call::Write(a, low(b), c)),
+            b"le" => Command::Call(Call::Left(a)),
+            b"co" => Command::Call(Call::Copy(a, b, c)),
+            b"fi" => Command::Call(Call::Fill(a, low(b), c)),
+            b"lo" => Command::Call(Call::SetLock(a, true)),
+            b"un" => Command::Call(Call::SetLock(a, false)),
+            b"gr" => Command::Call(Call::Grid(a, low(b), low(c), low(d), low(e))),
+            _ => Command::Check(a, b),
+        })
+    }
+}
+
+impl Lent {
+    // What is lent before the first line.
+    fn nothing() -> Lent {
+        Lent { arena: 0, table: 0 }
+    }
+
+    // How much is lent from a line on.
+    fn after(self, command: Command) -> Lent {
+        match command {
+            Command::Heap { order } => {
+                let size = 1usize << (order % (LARGEST_ARENA + 1));
+                Lent {
+                    arena: size,
+                    table: size >> SLOT_ORDER,
+                }
+            }
+            Command::Only { arena, table } => Lent {
+                arena: ARENA.min(arena as usize),
+                table: TABLE.min(table as usize),
+            },
+            _ => self,
         }
-        at += 1;
     }
-    at
 }
 
-fn is_digit(c: u8) -> bool {
-    48 <= c && c <= 57
-}
-
-// The decimal number at `from`, modulo 2^32; 0 where there is none.
-fn number(text: &[u8], from: usize) -> u32 {
-    let mut v = 0u32;
-    let mut at = from;
-    while at < text.len() {
-        let c = text[at];
-        if !is_digit(c) {
-            return v;
-        }
-        v = with_digit(v, c);
-        at += 1;
-    }
-    v
-}
-
-fn with_digit(v: u32, c: u8) -> u32 {
-    let sum = v as u64 * 10 + (c % 16) as u64;
-    (sum % 4294967296) as u32
-}
-
-fn line_at(text: &[u8], at: usize) -> Line
-    requires { at + 1 < length text.now }
+// What follows the first newline of a text.
+fn after_line(text: &[u8]) -> &[u8]
+    ensures { 0 < length text.now → length result.now < length text.now }
 {
-    let word = common::read_number(text, at, 2);
-    let a = past(text, at, b' ');
-    let b = past(text, a, b' ');
-    let c = past(text, b, b' ');
-    let d = past(text, c, b' ');
-    let e = past(text, d, b' ');
-    Line {
-        word,
-        a: number(text, a),
-        b: number(text, b),
-        c: number(text, c),
-        d: number(text, d),
-        e: number(text, e),
+    match text.iter().position(|&byte| byte == b'\n') {
+        Some(end) => &text[end + 1..],
+        None => &[],
     }
 }
 
-fn print<W: Write>(out: &mut W, text: &[u8]) -> io::Result<()> {
-    out.write_all(text)
-}
+// Bytes as they are printed: two hexadecimal digits each.
+#[derive(Clone, Copy)]
+struct Hex<'a>(&'a [u8]);
 
-fn print_bytes<W: Write>(out: &mut W, s: &[u8]) -> io::Result<()> {
-    for byte in s {
-        write!(out, "{byte:02x}")?;
+impl Display for Hex<'_> {
+    fn fmt<W: fmt::Write>(&self, f: &mut Formatter<W>) -> fmt::Result {
+        for byte in self.0 {
+            write!(f, "{byte:02x}")?;
+        }
+        Ok(())
     }
-    print(out, b"\n")
 }
 
-fn print_answer<W: Write>(out: &mut W, answer: Answer) -> io::Result<()> {
-    let number = answer.number;
-    let value = answer.value;
-    writeln!(out, "{number} {value}")
+fn print_answer<W: Write>(out: &mut W, outcome: Result<u32, Refusal>) -> io::Result<()> {
+    let answer = Answer::from(outcome);
+    writeln!(out, "{} {}", answer.number, answer.value)
 }
 
 // The number is left's.
 fn print_shown<W: Write>(out: &mut W, arena: &[u8], table: &[u8], p: u32) -> io::Result<()> {
-    let answer = heap::left(arena, table, p);
-    let number = answer.number;
-    write!(out, "{number} ")?;
-    let part = heap::show(arena, table, p);
-    if part.len() == 0 {
-        return print(out, b"-\n");
-    }
-    print_bytes(out, part)
-}
-
-fn poke(table: &mut [u8], i: u32, v: u32) {
-    let at = i as usize;
-    if at < table.len() {
-        table[at] = low(v);
+    let number = Answer::from(heap::left(arena, table, p)).number;
+    match heap::show(arena, table, p) {
+        [] => writeln!(out, "{number} -"),
+        bytes => writeln!(out, "{number} {}", Hex(bytes)),
     }
 }
 
-// The answer of a call. A word that names none is a check.
-fn answer_of(arena: &mut [u8], table: &mut [u8], l: Line) -> Answer {
-    let word = l.word;
-    let a = l.a;
-    let b = l.b;
-    let c = l.c;
-    match word {
-        // fr, ge, gi, st, re, wr, le, co, fi, lo, un, gr
-        0x6672 => heap::fresh(arena, table),
-        0x6765 => heap::get(arena, table, a),
-        0x6769 => heap::give(arena, table, a),
-        0x7374 => heap::step(arena, table, a, b),
-        0x7265 => heap::read(arena, table, a, low(b)),
-        0x7772 => heap::write(arena, table, a, low(b), c),
-        0x6c65 => heap::left(arena, table, a),
-        0x636f => heap::copy(arena, table, a, b, c),
-        0x6669 => heap::fill(arena, table, a, low(b), c),
-        0x6c6f => heap::lock(arena, table, a),
-        0x756e => heap::unlock(arena, table, a),
-        0x6772 => heap::grid(arena, table, a, low(b), low(c), low(l.d), low(l.e)),
-        _ => heap::check(arena, table, a, b),
+fn answer_to(arena: &mut [u8], table: &mut [u8], call: Call) -> Result<u32, Refusal> {
+    match call {
+        Call::Get(n) => heap::get(arena, table, n),
+        Call::Give(p) => heap::give(arena, table, p),
+        Call::Step(p, i) => heap::step(arena, table, p, i),
+        Call::Read(p, w) => heap::read(arena, table, p, w),
+        Call::Write(p, w, v) => heap::write(arena, table, p, w, v),
+        Call::Left(p) => heap::left(arena, table, p),
+        Call::Copy(p, q, n) => heap::copy(arena, table, p, q, n),
+        Call::Fill(p, v, n) => heap::fill(arena, table, p, v, n),
+        Call::SetLock(p, true) => heap::lock(arena, table, p),
+        Call::SetLock(p, false) => heap::unlock(arena, table, p),
+        Call::Grid(p, rows, columns, row, column) => {
+            heap::grid(arena, table, p, rows, columns, row, column)
+        }
     }
 }
 
-// Carries a line out on the lent parts of the buffers.
-fn carry_out<W: Write>(out: &mut W, arena: &mut [u8], table: &mut [u8], l: Line) -> io::Result<()> {
-    let word = l.word;
-    match word {
-        // he, on, po, sh, ar, ta
-        0x6865 => {
-            heap::fresh(arena, table);
+// Carries a command out on the lent parts of the buffers. They go on apart, as each of the heap's calls takes them.
+fn carry_out<W: Write>(
+    out: &mut W,
+    arena: &mut [u8],
+    table: &mut [u8],
+    command: Command,
+) -> io::Result<()> {
+    match command {
+        Command::Heap { .. } => {
+            // Buffers of an order that no arena has are refused, and stay as they were.
+            let _ = heap::fresh(arena, table);
             Ok(())
         }
-        0x6f6e => Ok(()),
-        0x706f => {
-            poke(table, l.a, l.b);
-            Ok(())
-        }
-        0x7368 => print_shown(out, arena, table, l.a),
-        0x6172 => print_bytes(out, arena),
-        0x7461 => print_bytes(out, table),
-        _ => print_answer(out, answer_of(arena, table, l)),
-    }
-}
-
-fn least(n: u32, most: usize) -> usize
-    ensures { result ≤ most }
-{
-    let k = n as usize;
-    if k < most { k } else { most }
-}
-
-// How much is lent from a line on.
-fn lent_by(l: Line, before: Lent) -> Lent
-    requires { Lendable before.arena before.table }
-    ensures { Lendable result.arena result.table }
-{
-    let word = l.word;
-    match word {
-        // he, on
-        0x6865 => {
-            let size = blocks::size_of(l.a % 17) as usize;
-            let slots = size >> SLOT_ORDER;
-            Lent {
-                arena: size,
-                table: slots,
+        Command::Only { .. } => Ok(()),
+        Command::Poke { entry, value } => {
+            if let Some(place) = table.get_mut(entry as usize) {
+                *place = value;
             }
+            Ok(())
         }
-        0x6f6e => Lent {
-            arena: least(l.a, ARENA),
-            table: least(l.b, TABLE),
-        },
-        _ => before,
+        Command::Show(p) => print_shown(out, arena, table, p),
+        Command::Arena => writeln!(out, "{}", Hex(arena)),
+        Command::Table => writeln!(out, "{}", Hex(table)),
+        Command::Fresh => print_answer(out, heap::fresh(arena, table)),
+        Command::Call(call) => print_answer(out, answer_to(arena, table, call)),
+        Command::Check(p, i) => print_answer(out, heap::check(arena, table, p, i)),
     }
 }
 
-fn run<W: Write>(out: &mut W, text: &[u8], arena: &mut [u8], table: &mut [u8]) -> io::Result<()>
-    requires { (arena_most ≤ length arena.old) × (table_most ≤ length table.old) }
-{
-    let mut lent = Lent { arena: 0, table: 0 };
-    let mut at = 0usize;
-    while at + 1 < text.len() {
-        let l = line_at(text, at);
-        lent = lent_by(l, lent);
-        let n = lent.arena;
-        let k = lent.table;
-        carry_out(out, &mut arena[..n], &mut table[..k], l)?;
-        at = past(text, at, b'\n');
+fn run<W: Write>(
+    out: &mut W,
+    text: &[u8],
+    arena: &mut [u8; ARENA],
+    table: &mut [u8; TABLE],
+) -> io::Result<()> {
+    let mut lent = Lent::nothing();
+    let mut rest = text;
+    while let Some(command) = Command::parse(rest) {
+        lent = lent.after(command);
+        carry_out(
+            out,
+            &mut arena[..lent.arena],
+            &mut table[..lent.table],
+            command,
+        )?;
+        rest = after_line(rest);
     }
     Ok(())
 }

@@ -5,6 +5,7 @@ use mathlib.Core.Bool.{Bool, true, false, ◌&&◌, ◌||◌, true≢false, fals
 use mathlib.Core.Logic.{◌⊎◌, inl, inr}
 use native.Mathlib.Omega.{arith}
 use lib.Dec.{eqb}
+pub use Rattle.std.proofs.lemmas.Bool.{or_cases}
 use borrow.Author.Tests.{eqb-true, eqb-false, eq-eqb, ne_eqb}
 
 pub and_left : (a b : Bool) → a && b ≡ true → a ≡ true
@@ -47,10 +48,6 @@ or-false-left false b h = refl
 pub or-false-right : (a b : Bool) → a || b ≡ false → b ≡ false
 or-false-right true b h = absurd (true≢false h)
 or-false-right false b h = h
-
-pub or_cases : (a b : Bool) → a || b ≡ true → (a ≡ true) ⊎ (b ≡ true)
-or_cases true b h = inl refl
-or_cases false b h = inr h
 
 pub or_true_right : (a b : Bool) → a || b ≡ true → a ≡ false → b ≡ true
 or_true_right true b h e = absurd (true≢false e)

@@ -6,7 +6,8 @@ use native.Mathlib.Decide.{dec_lt}
 use native.Mathlib.Omega.{arith}
 use native.Mathlib.Nat.{add_assoc, add-zero, zero-add, div-add-mod', pow-suc}
 use lib.ListN.{length, get_or, set, take, drop, length-append, length-drop, length-set, take-append-drop, drop_of_length-le, get_or-append}
-use lib.Seq.{get_or_at, get_or-append-add, get_or-take, get_or-drop, length-take-le, take-take, take-append-le, drop_at, drop-set-lt, take-suc-set}
+use lib.Seq.{get_or_at, get_or-append-add, get_or-take, get_or-drop, length-take-le, take-take, take-append-le, drop-drop, drop_at, drop-set-lt, take-suc-set}
+use borrow.Rule.Slice.PartMut.{put_mid}
 use Rattle.common.specs.Bytes.{big_endian, bytes_of, over}
 
 pub over_none : (l : List ℕ) (at : ℕ) → over l at [] ≡ l
@@ -16,6 +17,13 @@ over_none l at = rw add-zero (take-append-drop at l)
 pub over-whole : (l xs : List ℕ) → length xs ≡ length l → over l 0 xs ≡ xs
 unfolding over
 over-whole l xs e = let h : length l ≤ length xs = omega arith in rw (zero-add, drop_of_length-le l h) (append-nil xs)
+
+-- what a write to s[a..a + n] leaves, as a goal has it
+pub put_over : (s xs : List ℕ) (a n : ℕ) → length xs ≡ n → put_mid a (a + n - a) s xs ≡ over s a xs
+unfolding over
+put_over s xs a n e =
+    let k : a + n - a ≡ length xs = omega arith in
+    rw (k, drop-drop (length xs) a s)
 
 -- the first element stored before the rest
 pub over_first : (l : List ℕ) (at x : ℕ) (xs : List ℕ) → at < length l → over l at (x ∷ xs) ≡ over (set l at x) (suc at) xs

@@ -7,7 +7,7 @@ use native.Mathlib.Omega.{arith}
 use lib.ListN.{length, take, drop, length-append, length-drop, take-append-drop}
 use lib.Seq.{length-take-le, take-append-le, drop-append-le, drop-append-add, drop-drop, take-add, take_at}
 use Rattle.common.specs.Bytes.{over, copied}
-use Rattle.common.proofs.Bytes.{over-append, over-prepend}
+use Rattle.common.proofs.Bytes.{over_none, over-append, over-prepend}
 
 -- ---- a part of a list that is written over elsewhere stays
 
@@ -37,6 +37,11 @@ part-past l at xs from k h f =
 
 -- ---- a chunk, and the rest
 
+-- where nothing is left
+pub copy-end : (l src : List ℕ) (to from k : ℕ) → k ≤ 0 → copied l to src from k ≡ l
+unfolding copied
+copy-end l src to from k h = let e : k ≡ 0 = omega arith in rw e (over_none l to)
+
 -- by way of another list that holds the chunk
 pub held-chunk : (l chunk : List ℕ) (to from n : ℕ) → from + n ≤ length l → copied l to (copied chunk 0 l from n) 0 n ≡ copied l to l from n
 unfolding copied over
@@ -58,6 +63,7 @@ module _ (l : List ℕ) (to from a b : ℕ) (room : to + (a + b) ≤ length l) (
   both : front ++ back ≡ take (a + b) (drop from l)
   both = sym (take-add a b (drop from l) ∙ ap (λ (x : List ℕ). front ++ take b x) (drop-drop a from l))
 
+  -- the chunk first, then what lies above it
   rising-rest : to ≤ from → copied (copied l to l from a) (to + a) (copied l to l from a) (from + a) b ≡ copied l to l from (a + b)
   unfolding copied
   rising-rest d =
@@ -66,7 +72,8 @@ module _ (l : List ℕ) (to from a b : ℕ) (room : to + (a + b) ≤ length l) (
       ∙ over-append l to front back (omega (arith, length_front))
       ∙ ap (over l to) both
 
-  falling-rest : from ≤ to → copied (copied l (to + a) l (from + a) b) to (copied l (to + a) l (from + a) b) from a ≡ copied l to l from (a + b)
+  -- the chunk first, then what lies below it
+  pub falling-rest : from ≤ to → copied (copied l (to + a) l (from + a) b) to (copied l (to + a) l (from + a) b) from a ≡ copied l to l from (a + b)
   unfolding copied
   falling-rest d =
       ap (over (over l (to + a) back) to) (part-before l (to + a) back from a (omega arith) (omega arith))
@@ -74,7 +81,7 @@ module _ (l : List ℕ) (to from a b : ℕ) (room : to + (a + b) ≤ length l) (
       ∙ over-prepend l to front back (omega (arith, length_front))
       ∙ ap (over l to) both
 
--- ---- a turn of the two loops over chunks
+-- a turn in rising order
 
 pub rising-turn : (l : List ℕ) (to from c i n : ℕ) → to ≤ from → i + n ≤ c → to + c ≤ length l → from + c ≤ length l
     → copied (copied l (to + i) l (from + i) n) (to + (i + n)) (copied l (to + i) l (from + i) n) (from + (i + n)) (c - (i + n))
@@ -85,9 +92,3 @@ rising-turn l to from c i n d h room fits =
     let t : to + (i + n) ≡ to + i + n = omega arith in
     let f : from + (i + n) ≡ from + i + n = omega arith in
     rw (e, t, f) (rising-rest l (to + i) (from + i) n r (omega arith) (omega arith) (omega arith))
-
-pub falling-turn : (l : List ℕ) (to from k n : ℕ) → from ≤ to → n ≤ k → to + k ≤ length l → from + k ≤ length l
-    → copied (copied l (to + (k - n)) l (from + (k - n)) n) to (copied l (to + (k - n)) l (from + (k - n)) n) from (k - n) ≡ copied l to l from k
-falling-turn l to from k n d h room fits =
-    let e : k - n + n ≡ k = omega arith in
-    falling-rest l to from (k - n) n (omega arith) (omega arith) d ∙ ap (copied l to l from) e

@@ -5,29 +5,24 @@ use Rattle.std.proofs.Common.{replicate, sym, refl, ap, ◌∙◌, subst, ap₂,
 use borrow.Author.Tests.{not-false}
 use Rattle.common.specs.Refusals.{Refusal, ◌when◌, first}
 use Rattle.common.specs.Bytes.{big_endian, bytes_of, over, copied}
-use Rattle.blocks.specs.Blocks.{base, floor, Aligned, left_in}
+use Rattle.blocks.specs.Blocks.{base, floor, Aligned, left_in, Referent, Found}
 use Rattle.blocks.specs.Tables.{locked_in}
 use Rattle.blocks.specs.Pointers.{mark_bit, marked, address, sought}
 use Rattle.blocks.specs.Inner.{from_zero}
-use Rattle.blocks.specs.declared.Referent.{Referent}
-use Rattle.blocks.specs.declared.Referent.TheVariants.{Found}
 use Rattle.blocks.proofs.Floors.{pow-split, floor-same}
 use Rattle.blocks.proofs.Referents.{referent-block, referent-from-zero}
 use Rattle.heap.specs.Views.{View, referent_of_pointer, left_from}
 use Rattle.heap.specs.Rules.{bad_width, outside_arena, dead, plain_rules, both_plain, lock_rules, argument_rules, state_rules}
 use Rattle.heap.specs.Effects.{grid_address, value, stored}
 use Rattle.heap.specs.Heaps.{heap_of, heap_view, entered, heap_step, outcome}
-use Rattle.heap.specs.Inner.{Sound, Ready, Holding, located_by, located, located_plain, number_in}
+use Rattle.heap.specs.Inner.{Sound, Ready, Holding, Refused, Inside, located_by, located, located_plain, number_in}
 use Rattle.heap.specs.Changes.{change_of}
 use Rattle.heap.specs.declared.Call.{Call}
 use Rattle.heap.specs.declared.Call.TheVariants.{Read, Write, Left, Copy, Fill, Grid}
-use Rattle.heap.specs.declared.Answer.{Answer}
-use Rattle.heap.specs.declared.refusals.Located.{Located}
-use Rattle.heap.specs.declared.refusals.Located.TheVariants.{Refused, Inside}
 use Rattle.common.proofs.Refusals.{cond_of, first-stays, first-goes-on}
 use Rattle.heap.proofs.Settling.{answer}
 use Rattle.heap.proofs.Judging.{argument-clear, step-refused, step-accepted}
-use Rattle.heap.proofs.Homes.{located-refused, plain-has-home, is_plain, home-inside, plain-inside, plain-to-number, plain-number}
+use Rattle.heap.proofs.Homes.{located-refused, plain-has-home, is_plain, home-inside, plain-inside, plain-number}
 
 -- a block of an arena starts at a multiple of its size
 aligned-floor : (t m s e : ℕ) → e ≤ 16 → Aligned t m (record { start = s; order = e }) → floor e s ≡ s
@@ -76,7 +71,7 @@ module _ (t m : ℕ) (a tab : List ℕ) (g : Sound t m a tab) where
   unfolding sought
   plain-within p s e n f = subst (λ (x : ℕ). Within t m s e x) (rw n) (found_within p s e f)
 
-  pub found-holding : (p : ℕ) {s e : ℕ} → p < 2 ^ 32 → located w p ≡ Inside s e → Holding t s e (from_zero (sought t p)) (address p)
+  pub found-holding : (p : ℕ) {s e : ℕ} → p < 2 ^ 32 → Inside s e ≡ located w p → Holding t s e (from_zero (sought t p)) (address p)
   found-holding p {s} {e} l f =
       let x = found_within p s e (home-inside w p f).1 in
       let r : floor e s ≡ s = aligned-floor t m s e x.order x.aligned in
@@ -102,37 +97,35 @@ narrow {t} {m} {c} {a} {tab} z k n = go (eqb k 1) (eqb k 2) refl refl (not-false
 -- ---- a call that is ready, and goes by the referent of its pointer p first and then by rules of its own
 
 -- Where rs, the rules that judge p, lead it to a number, k, that refuses the call.
-pub led-refused : {t m : ℕ} {c : Call} {a tab : List ℕ} {l : Located} {k : ℕ} {r : Answer} → Ready t m c a tab → (p : ℕ) (rs own : List Refusal)
+pub led-refused : {t m : ℕ} {c : Call} {a tab : List ℕ} {k : ℕ} → Ready t m c a tab → (p : ℕ) (rs own : List Refusal)
     → let v = heap_view t m (heap_of a tab) in
-    (first rs ≡ 0 → dead v p ≡ false) → state_rules c v ≡ rs ++ own → l ≡ located_by (first rs) (referent_of_pointer v p)
-    → l ≡ Refused k → r ≡ answer k 0 → outcome r a tab ≡ heap_step t m c (heap_of a tab)
-led-refused {t} {m} {c} {a} {tab} {k = k} z p rs own home q found is e =
-    let (n, some) = located-refused (first rs) (referent_of_pointer (heap_view t m (heap_of a tab)) p) home k (sym found ∙ is) in
-    ap (λ (x : Answer). outcome x a tab) e ∙ step-refused t m c a tab z k (sym (ap first q ∙ first-stays rs own (λ x. some (sym n ∙ x)) ∙ n)) some
+    (first rs ≡ 0 → dead v p ≡ false) → state_rules c v ≡ rs ++ own → Refused k ≡ located_by (first rs) (referent_of_pointer v p)
+    → outcome (answer k 0) a tab ≡ heap_step t m c (heap_of a tab)
+led-refused {t} {m} {c} {a} {tab} {k} z p rs own home q found =
+    let (n, some) = located-refused (first rs) (referent_of_pointer (heap_view t m (heap_of a tab)) p) home k found in
+    step-refused t m c a tab z k (sym (ap first q ∙ first-stays rs own (λ x. some (sym n ∙ x)) ∙ n)) some
 
 -- p is plain, and leads to the block of order e at s
 pub record Led (t m : ℕ) (c : Call) (a tab : List ℕ) (p s e : ℕ) : Type 0 where
   pub ready : Ready t m c a tab
-  pub found : located_plain (heap_view t m (heap_of a tab)) p ≡ Inside s e
+  pub found : Inside s e ≡ located_plain (heap_view t m (heap_of a tab)) p
   pub within : Within t m s e p
 
--- what `locate_plain` finds by the table alone, l
-module _ {t m : ℕ} {c : Call} {a tab : List ℕ} {l : Located} (z : Ready t m c a tab) (p : ℕ) (found : l ≡ located_plain (heap_view t m (heap_of [] tab)) p)
-  where
-    abbrev v : View
-    v = heap_view t m (heap_of a tab)
+-- by what `locate_plain` finds in the table alone
+module _ {t m : ℕ} {c : Call} {a tab : List ℕ} (z : Ready t m c a tab) (p : ℕ) where
+  abbrev v : View
+  v = heap_view t m (heap_of a tab)
 
-    -- a number refuses the call
-    pub plain-refused : (own : List Refusal) → state_rules c v ≡ plain_rules v p ++ own → {k : ℕ} → l ≡ Refused k → {r : Answer} → r ≡ answer k 0
-        → outcome r a tab ≡ heap_step t m c (heap_of a tab)
-    plain-refused own q is e = led-refused z p (plain_rules v p) own (plain-has-home v p) q found is e
+  -- a number refuses the call
+  pub plain-refused : (own : List Refusal) → state_rules c v ≡ plain_rules v p ++ own → {k : ℕ} → Refused k ≡ located_plain (heap_view t m (heap_of [] tab)) p
+      → outcome (answer k 0) a tab ≡ heap_step t m c (heap_of a tab)
+  plain-refused own q found = led-refused z p (plain_rules v p) own (plain-has-home v p) q found
 
-    -- and a block holds p
-    pub led : {s e : ℕ} → l ≡ Inside s e → Led t m c a tab p s e
-    led {s} {e} is =
-        let f : located_plain v p ≡ Inside s e = sym found ∙ is in
-        let (n, h) = plain-inside v p f in
-        record { ready = z; found = f; within = plain-within t m a tab z.sound p s e (is_plain v p n) h }
+  -- and a block holds p
+  pub led : {s e : ℕ} → Inside s e ≡ located_plain (heap_view t m (heap_of [] tab)) p → Led t m c a tab p s e
+  led {s} {e} found =
+      let (n, h) = plain-inside v p found in
+      record { ready = z; found = found; within = plain-within t m a tab z.sound p s e (is_plain v p n) h }
 
 module _ {t m : ℕ} {c : Call} {a tab : List ℕ} {p s e : ℕ} (d : Led t m c a tab p s e) where
   abbrev seen : View
@@ -166,45 +159,42 @@ module _ {t m : ℕ} {c : Call} {a tab : List ℕ} {p s e : ℕ} (d : Led t m c 
     own_first : (b : Bool) → ltb (left_in (Found s e) p) k ≡ b → first (state_rules c seen) ≡ cond b 25 (first last)
     own_first b h = home-first _ q ∙ rw (led-found, h)
 
-    pub short-refused : left_in (Found s e) p < k → {r : Answer} → r ≡ answer 25 0 → outcome r a tab ≡ heap_step t m c (heap_of a tab)
-    short-refused h y =
-        rw y (step-refused t m c a tab d.ready 25 (sym (own_first true (lt-ltb (left_in (Found s e) p) k h))) (λ x. omega arith))
+    pub short-refused : left_in (Found s e) p < k → outcome (answer 25 0) a tab ≡ heap_step t m c (heap_of a tab)
+    short-refused h = step-refused t m c a tab d.ready 25 (sym (own_first true (lt-ltb (left_in (Found s e) p) k h))) (λ x. omega arith)
 
     pub long-first : k ≤ left_in (Found s e) p → first (state_rules c seen) ≡ first last
     long-first h = own_first false (le-ltb (left_in (Found s e) p) k h)
 
   -- where only the lock is left to judge
   module _ (q : first (state_rules c seen) ≡ first (lock_rules seen p)) where
-    pub locked-refused : locked_in t tab p ≡ true → {r : Answer} → r ≡ answer 28 0 → outcome r a tab ≡ heap_step t m c (heap_of a tab)
-    locked-refused h y = rw y (step-refused t m c a tab d.ready 28 (sym (q ∙ rw h)) (λ x. omega arith))
+    pub locked-refused : locked_in t tab p ≡ true → outcome (answer 28 0) a tab ≡ heap_step t m c (heap_of a tab)
+    locked-refused h = step-refused t m c a tab d.ready 28 (sym (q ∙ rw h)) (λ x. omega arith)
 
     pub unlocked-accepted : locked_in t tab p ≡ false
         → outcome (answer 0 (value c seen a)) (stored c seen a) (entered (change_of c) seen tab) ≡ heap_step t m c (heap_of a tab)
     unlocked-accepted h = step-accepted t m c a tab d.ready (q ∙ rw h)
 
--- The outcomes: l is what is left from p, `at` its place in the arena, and r the answer.
+-- The outcomes: l is what is left from p, and `at` its place in the arena.
 module _ {t m p s e : ℕ} {a tab : List ℕ} where
-  pub left-done : Led t m (Left p) a tab p s e → {l : ℕ} → l ≡ left_in (Found s e) p → {r : Answer} → r ≡ answer 0 l
-      → outcome r a tab ≡ heap_step t m (Left p) (heap_of a tab)
+  pub left-done : Led t m (Left p) a tab p s e → {l : ℕ} → l ≡ left_in (Found s e) p → outcome (answer 0 l) a tab ≡ heap_step t m (Left p) (heap_of a tab)
   unfolding state_rules value stored entered
-  left-done d q y = rw (y, left_is d q) (step-accepted t m (Left p) a tab d.ready (home-first d [] refl))
+  left-done d q = rw (left_is d q) (step-accepted t m (Left p) a tab d.ready (home-first d [] refl))
 
   module _ {w : ℕ} {at : ℕ} (o : at ≡ p - base) (fits : w ≤ left_in (Found s e) p) where
-    pub read_done : Led t m (Read p w) a tab p s e → {x : ℕ} → x ≡ big_endian a at w → {r : Answer} → r ≡ answer 0 x
-        → outcome r a tab ≡ heap_step t m (Read p w) (heap_of a tab)
+    pub read_done : Led t m (Read p w) a tab p s e → {x : ℕ} → x ≡ big_endian a at w → outcome (answer 0 x) a tab ≡ heap_step t m (Read p w) (heap_of a tab)
     unfolding state_rules value stored entered
-    read_done d x y = rw (y, x, o) (step-accepted t m (Read p w) a tab d.ready (long-first d w [] refl fits))
+    read_done d x = rw (x, o) (step-accepted t m (Read p w) a tab d.ready (long-first d w [] refl fits))
 
     pub write_done : {v : ℕ} → Led t m (Write p w v) a tab p s e → locked_in t tab p ≡ false → {b : List ℕ} → b ≡ over a at (bytes_of w v)
-        → {r : Answer} → r ≡ answer 0 0 → outcome r b tab ≡ heap_step t m (Write p w v) (heap_of a tab)
+        → outcome (answer 0 0) b tab ≡ heap_step t m (Write p w v) (heap_of a tab)
     unfolding state_rules value stored entered
-    write_done d n x y = rw (y, x, o) (unlocked-accepted d (long-first d w _ refl fits) n)
+    write_done d n x = rw (x, o) (unlocked-accepted d (long-first d w _ refl fits) n)
 
   pub grid-done : {rows columns row column : ℕ} → rows * columns ≤ left_in (Found s e) p → Led t m (Grid p rows columns row column) a tab p s e
-      → {r : Answer} → r ≡ answer 0 (grid_address p columns row column) → outcome r a tab ≡ heap_step t m (Grid p rows columns row column) (heap_of a tab)
+      → outcome (answer 0 (grid_address p columns row column)) a tab ≡ heap_step t m (Grid p rows columns row column) (heap_of a tab)
   unfolding state_rules value stored entered
-  grid-done {rows} {columns} {row} {column} fits d y =
-      rw y (step-accepted t m (Grid p rows columns row column) a tab d.ready (long-first d (rows * columns) [] refl fits))
+  grid-done {rows} {columns} {row} {column} fits d =
+      step-accepted t m (Grid p rows columns row column) a tab d.ready (long-first d (rows * columns) [] refl fits)
 
   pub fill-last : {v n : ℕ} → Led t m (Fill p v n) a tab p s e
       → let w = heap_view t m (heap_of a tab) in first (state_rules (Fill p v n) w) ≡ first (lock_rules w p)
@@ -212,9 +202,9 @@ module _ {t m p s e : ℕ} {a tab : List ℕ} where
   fill-last d = home-first d _ refl
 
   pub fill_done : {v n l k at : ℕ} → Led t m (Fill p v n) a tab p s e → locked_in t tab p ≡ false → l ≡ left_in (Found s e) p → k ≡ min n l → at ≡ p - base
-      → {b : List ℕ} → b ≡ over a at (replicate k v) → {r : Answer} → r ≡ answer 0 k → outcome r b tab ≡ heap_step t m (Fill p v n) (heap_of a tab)
+      → {b : List ℕ} → b ≡ over a at (replicate k v) → outcome (answer 0 k) b tab ≡ heap_step t m (Fill p v n) (heap_of a tab)
   unfolding value stored entered
-  fill_done d f q u o x y = rw (y, x, o, u, left_is d q) (unlocked-accepted d (fill-last d) f)
+  fill_done d f q u o x = rw (x, o, u, left_is d q) (unlocked-accepted d (fill-last d) f)
 
 -- ---- a copy, from y to p
 
@@ -244,28 +234,25 @@ module _ {t m p y n : ℕ} {a tab : List ℕ} (z : Ready t m (Copy p y n) a tab)
       below : (v : ℕ) → first (22 when dead x v ∷ 13 when marked v ∷ []) ≤ 27
       below v = at_most 27 22 (dead x v) (omega arith) (at_most 27 13 (marked v) (omega arith) (omega arith))
 
-  -- so it is refused where the pointer v, one of them, is
-  pub both-refused : {k : ℕ} → k ≡ max (number_in (located_plain x p)) (number_in (located_plain x y)) → (v i : ℕ) → located_plain x v ≡ Refused i
-      → number_in (located_plain x v) ≤ max (number_in (located_plain x p)) (number_in (located_plain x y))
-      → {r : Answer} → r ≡ answer k 0 → outcome r a tab ≡ heap_step t m (Copy p y n) (heap_of a tab)
+  -- so it is refused where one of them is
+  pub both-refused : {k : ℕ} → k ≡ max (number_in (located_plain x p)) (number_in (located_plain x y)) → (k ≡ 0 → ⊥)
+      → outcome (answer k 0) a tab ≡ heap_step t m (Copy p y n) (heap_of a tab)
   unfolding state_rules
-  both-refused {k} q v i l u e =
-      let (_, o) = plain-to-number x v i l in
-      let some : k ≡ 0 → ⊥ = λ r. o (omega (arith, ap number_in l)) in
+  both-refused {k} q some =
       let number = q ∙ sym numbers-first in
-      rw e (step-refused t m (Copy p y n) a tab z k (number ∙ sym (first-stays (both_plain x p y) (lock_rules x p) (λ r. some (number ∙ r)))) some)
+      step-refused t m (Copy p y n) a tab z k (number ∙ sym (first-stays (both_plain x p y) (lock_rules x p) (λ r. some (number ∙ r)))) some
 
   -- and where both lead to a block only the lock is left to judge
-  pub copy-last : {s e s2 e2 : ℕ} → located_plain x p ≡ Inside s e → located_plain x y ≡ Inside s2 e2
+  pub copy-last : {s e s2 e2 : ℕ} → Inside s e ≡ located_plain x p → Inside s2 e2 ≡ located_plain x y
       → first (state_rules (Copy p y n) x) ≡ first (lock_rules x p)
   unfolding state_rules
-  copy-last d f = first-goes-on (both_plain x p y) (lock_rules x p) refl (numbers-first ∙ rw (d, f))
+  copy-last d f = first-goes-on (both_plain x p y) (lock_rules x p) refl (numbers-first ∙ rw (← d, ← f))
 
 -- and else it stores as many bytes as both referents have left
 pub copy_done : {t m p y n : ℕ} {a tab : List ℕ} {s e s2 e2 k at from : ℕ} → Led t m (Copy p y n) a tab p s e → Led t m (Copy p y n) a tab y s2 e2
     → locked_in t tab p ≡ false → k ≡ min n (min (left_in (Found s e) p) (left_in (Found s2 e2) y)) → at ≡ p - base → from ≡ y - base
-    → {b : List ℕ} → b ≡ copied a at a from k → {r : Answer} → r ≡ answer 0 k → outcome r b tab ≡ heap_step t m (Copy p y n) (heap_of a tab)
+    → {b : List ℕ} → b ≡ copied a at a from k → outcome (answer 0 k) b tab ≡ heap_step t m (Copy p y n) (heap_of a tab)
 unfolding value stored entered
-copy_done {n = n} d f free q o u x e =
+copy_done {n = n} d f free q o u x =
     let count = q ∙ ap₂ (λ (i j : ℕ). min n (min i j)) (left_is d refl) (left_is f refl) in
-    rw (e, x, o, u, count) (unlocked-accepted d (copy-last d.ready d.found f.found) free)
+    rw (x, o, u, count) (unlocked-accepted d (copy-last d.ready d.found f.found) free)

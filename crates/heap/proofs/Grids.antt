@@ -9,11 +9,9 @@ use borrow.Author.Tests.{lt-leb}
 use Rattle.common.specs.Refusals.{first}
 use Rattle.common.proofs.Booleans.{or-false-left, or-false-right}
 use Rattle.common.proofs.Refusals.{cond_of, clear}
-use Rattle.blocks.specs.Blocks.{missing, left_in}
+use Rattle.blocks.specs.Blocks.{missing, left_in, Referent, Missing, Found}
 use Rattle.blocks.specs.Pointers.{mark_bit, marked, sought}
 use Rattle.blocks.specs.Tables.{referent_in}
-use Rattle.blocks.specs.declared.Referent.{Referent}
-use Rattle.blocks.specs.declared.Referent.TheVariants.{Missing, Found}
 use Rattle.blocks.proofs.Referents.{referent-block}
 use Rattle.heap.specs.Views.{View, slot_order, referent_of_pointer}
 use Rattle.heap.specs.Rules.{dead, argument_rules, state_rules, rules}

@@ -1,26 +1,21 @@
 -- A call that has been judged up to its state, by its list of refusals. The list's first is that of 8, the arguments' own first, 20 and the state's
 -- (`rules-first`), which is the order in which the code finds them (`judge`).
 use Rattle.std.proofs.Common.{◌≡◌, ℕ, zero, suc, ◌-◌, ◌^◌, ◌≤◌, Bool, true, false, cond, not, eqb, leb, List, [], ◌∷◌, length, replicate, sym, refl, ap, ◌∙◌}
-use Rattle.std.proofs.Common.{subst, ap₂, arith, eq-eqb, ne_eqb, eqb-true, le-leb, leb-true}
-use native.Mathlib.Decide.{dec_lt}
+use Rattle.std.proofs.Common.{Some, None, subst, ap₂, arith, eq-eqb, ne_eqb, eqb-true, le-leb, leb-true}
 use borrow.Author.Tests.{eqb-false, not-false}
-use lib.ListN.{length-replicate}
 use Rattle.common.specs.Refusals.{Refusal, ◌when◌, first}
-use Rattle.common.specs.Bytes.{over}
-use Rattle.common.proofs.Bytes.{over-whole}
 use Rattle.common.proofs.Refusals.{positive, clear, cond_of, first-stays, numbered, first-append}
-use Rattle.common.proofs.Booleans.{and_left, and_right, and_both, eqb-suc}
+use Rattle.common.proofs.Booleans.{and_left, and_right, and_both}
 use Rattle.blocks.proofs.Orders.{order-power}
 use Rattle.blocks.specs.Tables.{damaged_by}
-use Rattle.blocks.specs.Orders.{smallest_arena, largest_arena, is_arena_order, order_of}
+use Rattle.blocks.specs.Orders.{smallest_arena, largest_arena, is_arena_order, order_of, unless_zero}
 use Rattle.heap.specs.Views.{View, slot_order}
 use Rattle.heap.specs.Rules.{argument_rules, state_rules, rules, address_rules}
 use Rattle.heap.specs.Effects.{value, stored, Outcome, settled}
 use Rattle.heap.specs.Heaps.{Heap, heap_of, wrong_sizes, heap_view, view_of, entered, heap_step, heap_call, heap_fresh, fresh_heap}
 use Rattle.heap.specs.Heaps.{pointer_number, bit, check_step, heap_check, outcome}
 use Rattle.heap.specs.Changes.{change_of}
-use Rattle.heap.specs.Inner.{heap_order, before_call, Sound, Ready}
-use Rattle.heap.specs.declared.Answer.{Answer}
+use Rattle.heap.specs.Inner.{heap_order, before_call, Sound, Ready, Judged}
 use Rattle.heap.specs.declared.Call.{Call}
 use Rattle.heap.specs.declared.Call.TheVariants.{Get, Give, Step, Read, Write, Left, Copy, Fill, SetLock, Grid}
 use Rattle.heap.proofs.Settling.{answer, settled-refused, settled-number}
@@ -100,17 +95,17 @@ module _ (t : ℕ) (a tab : List ℕ) where
       ap not (and_both (and_both (le-leb smallest_arena m s.low) (le-leb m largest_arena s.high)) (and_both (eq-eqb _ _ s.size) (eq-eqb _ _ s.slots)))
 
 -- a call that is refused by the number k
-pub refused-step : (t m : ℕ) (c : Call) (a tab : List ℕ) {k : ℕ} {r : Answer} → k ≡ first (rules c (heap_view t m (heap_of a tab))) → (k ≡ 0 → ⊥)
-    → r ≡ answer k 0 → outcome r a tab ≡ heap_step t m c (heap_of a tab)
+pub refused-step : (t m : ℕ) (c : Call) (a tab : List ℕ) {k : ℕ} → k ≡ first (rules c (heap_view t m (heap_of a tab))) → (k ≡ 0 → ⊥)
+    → outcome (answer k 0) a tab ≡ heap_step t m c (heap_of a tab)
 unfolding heap_step
-refused-step t m c a tab {k = k} q n e = rw (e, ← q) (settled-refused k (heap_of a tab) _ _ n)
+refused-step t m c a tab {k = k} q n = rw (← q) (settled-refused k (heap_of a tab) _ _ n)
 
 -- a call on a sound heap that its arguments refuse
-pub argument-refused : {t m : ℕ} (c : Call) {a tab : List ℕ} {k : ℕ} {r : Answer} → Sound t m a tab → k ≡ first (argument_rules m c) → (k ≡ 0 → ⊥)
-    → r ≡ answer k 0 → outcome r a tab ≡ heap_step t m c (heap_of a tab)
-argument-refused {t = t} {m = m} c {a = a} {tab = tab} {k = k} s q n e =
+pub argument-refused : {t m : ℕ} (c : Call) {a tab : List ℕ} {k : ℕ} → Sound t m a tab → k ≡ first (argument_rules m c) → (k ≡ 0 → ⊥)
+    → outcome (answer k 0) a tab ≡ heap_step t m c (heap_of a tab)
+argument-refused {t = t} {m = m} c {a = a} {tab = tab} {k = k} s q n =
     let x : k ≡ first (rules c (heap_view t m (heap_of a tab))) = rw (rules-first, sizes-right t a tab (sound-sized t a tab s), ← q, ne_eqb k 0 n) in
-    refused-step t m c a tab x n e
+    refused-step t m c a tab x n
 
 module _ (t m : ℕ) (c : Call) (a tab : List ℕ) (z : Ready t m c a tab) where
   abbrev w : View
@@ -124,47 +119,53 @@ module _ (t m : ℕ) (c : Call) (a tab : List ℕ) (z : Ready t m c a tab) where
   ready-first = rules-first c w ∙ rw (sizes-right t a tab (sound-sized t a tab z.sound), z.arguments, z.sound.whole)
 
   pub step-refused : (k : ℕ) → k ≡ first (state_rules c w) → (k ≡ 0 → ⊥) → outcome (answer k 0) a tab ≡ heap_step t m c (heap_of a tab)
-  step-refused k q n = refused-step t m c a tab (q ∙ sym ready-first) n refl
+  step-refused k q n = refused-step t m c a tab (q ∙ sym ready-first) n
 
   pub step-accepted : first (state_rules c w) ≡ 0
       → outcome (answer 0 (value c w a)) (stored c w a) (entered (change_of c) w tab) ≡ heap_step t m c (heap_of a tab)
   unfolding heap_step
   step-accepted q = rw (ready-first, q)
 
--- What the order m that the code computes says of the lengths.
-pub record Ordered (t : ℕ) (a tab : List ℕ) (m : ℕ) : Type 0 where
-  pub wrong : m ≡ 0 → wrong_sizes t (order_of (length a)) (heap_of a tab) ≡ true
-  pub sized : (m ≡ 0 → ⊥) → Sized t a tab m
+-- an order as the code says it
+order-is : (k : ℕ) {m : ℕ} → Some m ≡ unless_zero k → k ≡ m
+order-is zero q = cc
+order-is (suc k) q = cc
 
-pub ordered : {t : ℕ} {a tab : List ℕ} {m : ℕ} → m ≡ heap_order t a tab → Ordered t a tab m
-unfolding heap_order
-ordered {t = t} {a = a} {tab = tab} {m = m} q = go (wrong_sizes t (order_of (length a)) (heap_of a tab)) refl q
-  where
-    go : (b : Bool) → wrong_sizes t (order_of (length a)) (heap_of a tab) ≡ b → m ≡ cond b 0 (order_of (length a)) → Ordered t a tab m
-    go true e x = record { wrong = λ z. e; sized = λ n. absurd (n x) }
-    go false e x =
-        let s : Sized t a tab m = subst (Sized t a tab) (sym x) (fits-sized t a tab (order_of (length a)) e) in
-        record { wrong = λ z. absurd (omega (arith, s.low)); sized = λ n. s }
+no-order : (k : ℕ) → None ≡ unless_zero k → k ≡ 0
+no-order zero q = refl
+no-order (suc k) q = cc
 
--- what `arguments` and `before_call` require, by what `order_of` ensures
-module _ (a tab : List ℕ) {m : ℕ} (q : m ≡ heap_order slot_order a tab) where
-  pub order-top : m ≤ 16
-  order-top = elim (dec_lt 0 m) [ yes p ↦ ((ordered q).sized (λ z. omega arith)).high | no p ↦ omega arith ]
+-- What the order that the code finds says of the lengths: those of a heap of that order, or of none.
+module _ (t : ℕ) (a tab : List ℕ) where
+  abbrev misfit : Bool
+  misfit = wrong_sizes t (order_of (length a)) (heap_of a tab)
 
-  pub order-slots : (m ≡ 0 → ⊥) → (1 ≤ slot_order) × (slot_order ≤ m) × (m ≤ 16) × (length tab ≡ 2 ^ (m - slot_order))
-  order-slots n = let s = (ordered q).sized n in (omega arith, omega (arith, s.low), s.high, s.slots)
+  pub order-found : {m : ℕ} → Some m ≡ unless_zero (heap_order t a tab) → Sized t a tab m
+  unfolding heap_order
+  order-found {m} q = go misfit refl q
+    where
+      go : (b : Bool) → misfit ≡ b → Some m ≡ unless_zero (cond b 0 (order_of (length a))) → Sized t a tab m
+      go true e x = absurd cc
+      go false e x = subst (Sized t a tab) (order-is _ x) (fits-sized t a tab (order_of (length a)) e)
 
--- 8 by that order, and by the arena's
-order-sizes : {t : ℕ} {a tab : List ℕ} {m : ℕ} → Ordered t a tab m → wrong_sizes t m (heap_of a tab) ≡ eqb m 0
-order-sizes {m = zero} o = refl
-order-sizes {t = t} {a = a} {tab = tab} {m = suc m} o = sizes-right t a tab (o.sized (λ z. omega arith)) ∙ sym (eqb-suc m)
+  -- 8 by the order that is found, 0 for none
+  pub order-sizes : (m : ℕ) → m ≡ heap_order t a tab → wrong_sizes t m (heap_of a tab) ≡ eqb m 0
+  unfolding heap_order
+  order-sizes m q = go misfit refl q
+    where
+      go : (b : Bool) → misfit ≡ b → m ≡ cond b 0 (order_of (length a)) → wrong_sizes t m (heap_of a tab) ≡ eqb m 0
+      go true e x = rw x
+      go false e x =
+          let s = fits-sized t a tab (order_of (length a)) e in
+          rw x (e ∙ sym (ne_eqb (order_of (length a)) 0 (λ z. omega (arith, s.low))))
 
-order-rules : {t : ℕ} {a tab : List ℕ} {m : ℕ} (c : Call) → Ordered t a tab m
-    → first (rules c (heap_view t m (heap_of a tab))) ≡ first (rules c (heap_view t (order_of (length a)) (heap_of a tab)))
-unfolding rules
-order-rules {m = zero} c o = rw (o.wrong refl)
-order-rules {t = t} {a = a} {tab = tab} {m = suc m} c o =
-    ap (λ (k : ℕ). first (rules c (heap_view t k (heap_of a tab)))) (o.sized (λ z. omega arith)).same
+  pub order-missing : None ≡ unless_zero (heap_order t a tab) → misfit ≡ true
+  unfolding heap_order
+  order-missing q = go misfit refl (no-order _ q)
+    where
+      go : (b : Bool) → misfit ≡ b → cond b 0 (order_of (length a)) ≡ 0 → misfit ≡ true
+      go true e x = e
+      go false e x = let s = fits-sized t a tab (order_of (length a)) e in absurd (omega (arith, s.low))
 
 -- ---- the public calls
 
@@ -176,38 +177,40 @@ accepted-ready c a tab z =
     let (x, u, d, g) = judging-clear w.wrong-sizes (first (argument_rules w.order c)) w.damaged (state_rules c w) (sym (rules-first c w) ∙ z) in
     (record { sound = sized-sound slot_order a tab (omega arith) (omega arith) (fits-sized slot_order a tab w.order x) d; arguments = u }, g)
 
--- A call that was judged: its refusal before it is carried out, or what it may rely on.
-pub record Judged (c : Call) (a tab : List ℕ) (number order : ℕ) : Type 0 where
-  pub refusal : (number ≡ 0 → ⊥) → number ≡ first (rules c (view_of (heap_of a tab)))
-  pub ready : number ≡ 0 → Ready slot_order order c a tab
+-- The judging of a public call, by what `order_of` and `before_call` ensure. The lengths are none of a heap:
+pub sizes-refused : (c : Call) (a tab : List ℕ) → wrong_sizes slot_order (order_of (length a)) (heap_of a tab) ≡ true
+    → outcome (answer 8 0) a tab ≡ heap_call c (heap_of a tab)
+unfolding heap_call rules
+sizes-refused c a tab e = refused-step slot_order (order_of (length a)) c a tab (rw e) (λ z. omega arith)
 
--- by what `order_of`, `arguments` and `before_call` ensure
-pub judge : {c : Call} {a tab : List ℕ} {m n k : ℕ} → m ≡ heap_order slot_order a tab → n ≡ first (argument_rules m c)
-    → k ≡ before_call slot_order m n tab → Judged c a tab k m
-judge {c = c} {a = a} {tab = tab} {m = m} {n = n} q x h =
-    let o = ordered q in
-    let w = heap_view slot_order m (heap_of a tab) in
-    record {
-      refusal = λ y.
-          h ∙ sym (first-stays (judging (eqb m 0) n w.damaged []) (state_rules c w) (λ z. y (h ∙ z)))
-          ∙ ap₂ (λ (b : Bool) (l : ℕ). first (judging b l w.damaged (state_rules c w))) (sym (order-sizes o)) x
-          ∙ sym (rules-first c w) ∙ order-rules c o;
-      ready = λ z.
-          let (e, u, d, _) = judging-clear (eqb m 0) n w.damaged [] (sym h ∙ z) in
-          record { sound = sized-sound slot_order a tab (omega arith) (omega arith) (o.sized (eqb-false m 0 e)) d; arguments = sym x ∙ u };
-    }
+-- or they are, and k is what refuses the call then, 0 for nothing.
+module _ (c : Call) {a tab : List ℕ} {m k : ℕ} (s : Sized slot_order a tab m) (h : k ≡ before_call slot_order m (first (argument_rules m c)) tab) where
+  abbrev x : View
+  x = heap_view slot_order m (heap_of a tab)
 
-module _ {c : Call} {a tab : List ℕ} {k m : ℕ} (j : Judged c a tab k m) where
-  pub judged-refused : (k ≡ 0 → ⊥) → {r : Answer} → r ≡ answer k 0 → outcome r a tab ≡ heap_call c (heap_of a tab)
+  abbrev before : List Refusal → List Refusal
+  before = judging (eqb m 0) (first (argument_rules m c)) x.damaged
+
+  ordered-first : first (rules c x) ≡ first (before (state_rules c x))
+  ordered-first =
+      rules-first c x
+      ∙ ap (λ (b : Bool). first (judging b (first (argument_rules m c)) x.damaged (state_rules c x)))
+      (sizes-right slot_order a tab s ∙ sym (ne_eqb m 0 (λ z. omega (arith, s.low))))
+
+  pub judged-refused : (k ≡ 0 → ⊥) → outcome (answer k 0) a tab ≡ heap_call c (heap_of a tab)
   unfolding heap_call
-  judged-refused n e = refused-step slot_order (order_of (length a)) c a tab (j.refusal n) n e
+  judged-refused n =
+      let number = h ∙ sym (first-stays (before []) (state_rules c x) (λ z. n (h ∙ z))) ∙ sym ordered-first in
+      rw (← s.same) (refused-step slot_order m c a tab number n)
 
-  pub judged-order : k ≡ 0 → m ≡ order_of (length a)
-  judged-order z = (sound-sized slot_order a tab (j.ready z).sound).same
-
-  pub judged-call : k ≡ 0 → {x : Outcome Heap} → x ≡ heap_step slot_order m c (heap_of a tab) → x ≡ heap_call c (heap_of a tab)
+  pub judged-ready : k ≡ 0 → Judged c a tab m
   unfolding heap_call
-  judged-call z e = e ∙ ap (λ (o : ℕ). heap_step slot_order o c (heap_of a tab)) (judged-order z)
+  judged-ready z =
+      let (_, u, d, _) = judging-clear (eqb m 0) (first (argument_rules m c)) x.damaged [] (sym h ∙ z) in
+      record {
+        ready = record { sound = sized-sound slot_order a tab (omega arith) (omega arith) s d; arguments = u };
+        same = ap (λ (o : ℕ). heap_step slot_order o c (heap_of a tab)) s.same;
+      }
 
 -- the number of a call's answer
 pub call-number : (c : Call) (h : Heap) → (heap_call c h).answer.number ≡ first (rules c (view_of h))
@@ -226,18 +229,19 @@ pub check-number : (p i : ℕ) (h : Heap) → (heap_check p i h).number ≡ firs
 unfolding heap_check check_step
 check-number p i h = settled-number (first (address_rules (view_of h) p)) (bit ((view_of h).inside p i)) h h ∙ address-number p h
 
-module _ {p k m : ℕ} {a tab : List ℕ} (i : ℕ) (j : Judged (Left p) a tab k m) where
-  pub check-refused : (k ≡ 0 → ⊥) → {r : Answer} → r ≡ answer k 0 → r ≡ heap_check p i (heap_of a tab)
-  unfolding heap_check check_step
-  check-refused n e =
-      let h : Heap = heap_of a tab in
-      let v : ℕ = bit ((view_of h).inside p i) in
-      e ∙ ap (λ (x : Outcome Heap). x.answer)
-      (settled-refused k h v h n ∙ ap (λ (x : ℕ). settled x h v h) (j.refusal n ∙ ap first (sym (address-left p (view_of h)))))
+-- refused, the check says what left does
+pub check-refused : (p i : ℕ) {k : ℕ} {a tab : List ℕ} → (k ≡ 0 → ⊥) → outcome (answer k 0) a tab ≡ heap_call (Left p) (heap_of a tab)
+    → answer k 0 ≡ heap_check p i (heap_of a tab)
+unfolding heap_check check_step
+check-refused p i {k} {a} {tab} n e =
+    let h : Heap = heap_of a tab in
+    let v : ℕ = bit ((view_of h).inside p i) in
+    let number : k ≡ first (address_rules (view_of h) p) = ap (λ x. x.answer.number) e ∙ call-number (Left p) h ∙ sym (address-number p h) in
+    ap (λ (x : Outcome Heap). x.answer) (settled-refused k h v h n ∙ ap (λ (x : ℕ). settled x h v h) number)
 
-  pub judged-check : k ≡ 0 → {r : Answer} → r ≡ check_step slot_order m p i (heap_of a tab) → r ≡ heap_check p i (heap_of a tab)
-  unfolding heap_check
-  judged-check z e = e ∙ ap (λ (o : ℕ). check_step slot_order o p i (heap_of a tab)) (judged-order j z)
+pub check-ordered : (p i : ℕ) {m : ℕ} {a tab : List ℕ} → Sized slot_order a tab m → check_step slot_order m p i (heap_of a tab) ≡ heap_check p i (heap_of a tab)
+unfolding heap_check
+check-ordered p i {a = a} {tab = tab} s = ap (λ (o : ℕ). check_step slot_order o p i (heap_of a tab)) s.same
 
 -- Fresh: on buffers whose lengths fit it leaves the fresh heap of their order.
 pub fresh-heap : (m : ℕ) (a tab : List ℕ) → wrong_sizes slot_order m (heap_of a tab) ≡ false
@@ -248,16 +252,14 @@ fresh-heap m a tab z =
     let n : (view_of (heap_of a tab)).wrong-sizes ≡ false = rw (← s.same) z in
     rw n (ap₂ (λ (n k : ℕ). outcome (answer 0 0) (replicate n 0) (replicate k 0)) s.size s.slots)
 
-module _ (a tab : List ℕ) {m : ℕ} (q : m ≡ heap_order slot_order a tab) where
-  pub fresh-refused : m ≡ 0 → {r : Answer} → r ≡ answer 8 0 → outcome r a tab ≡ heap_fresh (heap_of a tab)
+module _ (a tab : List ℕ) where
+  pub fresh-refused : wrong_sizes slot_order (order_of (length a)) (heap_of a tab) ≡ true → outcome (answer 8 0) a tab ≡ heap_fresh (heap_of a tab)
   unfolding heap_fresh
-  fresh-refused z e = rw (e, (ordered q).wrong z)
+  fresh-refused e = rw e
 
-  pub order-fits : (m ≡ 0 → ⊥) → (view_of (heap_of a tab)).wrong-sizes ≡ false
-  order-fits n = let s = (ordered q).sized n in rw (← s.same) (sizes-right slot_order a tab s)
+  pub order-fits : {m : ℕ} → Sized slot_order a tab m → (view_of (heap_of a tab)).wrong-sizes ≡ false
+  order-fits s = rw (← s.same) (sizes-right slot_order a tab s)
 
-  pub fresh-done : (m ≡ 0 → ⊥) → {r : Answer} {a' tab' : List ℕ} → r ≡ answer 0 0
-      → a' ≡ over a 0 (replicate (length a) 0) → tab' ≡ over tab 0 (replicate (length tab) 0) → outcome r a' tab' ≡ heap_fresh (heap_of a tab)
+  pub fresh-done : {m : ℕ} → Sized slot_order a tab m → outcome (answer 0 0) (replicate (length a) 0) (replicate (length tab) 0) ≡ heap_fresh (heap_of a tab)
   unfolding heap_fresh
-  fresh-done n e x y =
-      rw (order-fits n, e, x ∙ over-whole a _ (length-replicate (length a) 0), y ∙ over-whole tab _ (length-replicate (length tab) 0))
+  fresh-done s = rw (order-fits s)

@@ -5,7 +5,6 @@ pub mod Vectors
 pub mod Settling
 pub mod Judging
 pub mod Lengths
-pub mod Arguments
 pub mod Homes
 pub mod Accesses
 pub mod Stepping
@@ -17,3 +16,4 @@ pub mod Locking
 pub mod Grids
 pub mod AnswerBytes
 pub mod Changes
+pub mod Freshening

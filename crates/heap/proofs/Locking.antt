@@ -9,11 +9,9 @@ use Rattle.common.specs.Refusals.{first}
 use Rattle.common.specs.Bytes.{over}
 use Rattle.common.proofs.Bytes.{length_over, over-before, over-in, over-after}
 use Rattle.common.proofs.Booleans.{and_both}
-use Rattle.blocks.specs.Blocks.{base, missing}
+use Rattle.blocks.specs.Blocks.{base, missing, Referent, Missing, Found}
 use Rattle.blocks.specs.Tables.{entry_locked, entry_of, locked_in, referent_in}
 use Rattle.blocks.specs.Pointers.{sought}
-use Rattle.blocks.specs.declared.Referent.{Referent}
-use Rattle.blocks.specs.declared.Referent.TheVariants.{Missing, Found}
 use Rattle.blocks.proofs.Referents.{ReferentBlock, referent-block}
 use Rattle.blocks.proofs.Sets.{held_low, held_high}
 use Rattle.blocks.proofs.Slots.{block, slot_of, slot-start, Slots, slots-of, held-slots, slots-held}

@@ -3,10 +3,8 @@ use Rattle.std.proofs.Common.{◌≡◌, ℕ, ◌+◌, ◌-◌, ◌^◌, ◌≤�
 use Rattle.std.proofs.Common.{eqb-true}
 use mathlib.Core.Bool.{false≢true}
 use Rattle.common.specs.Refusals.{first}
-use Rattle.blocks.specs.Blocks.{base, missing, left_in}
+use Rattle.blocks.specs.Blocks.{base, missing, left_in, Referent, Missing, Found}
 use Rattle.blocks.specs.Orders.{order_of}
-use Rattle.blocks.specs.declared.Referent.{Referent}
-use Rattle.blocks.specs.declared.Referent.TheVariants.{Missing, Found}
 use Rattle.heap.specs.Views.{slot_order, referent_of_pointer, left_from}
 use Rattle.heap.specs.Rules.{state_rules, rules}
 use Rattle.heap.specs.Effects.{value}

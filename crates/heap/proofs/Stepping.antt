@@ -6,12 +6,10 @@ use mathlib.Core.Bool.{and-false}
 use native.Mathlib.Decide.{dec_lt, dec_le}
 use borrow.Author.Tests.{lt-leb}
 use Rattle.common.specs.Refusals.{◌when◌, first}
-use Rattle.blocks.specs.Blocks.{floor}
+use Rattle.blocks.specs.Blocks.{floor, Referent, Found}
 use Rattle.blocks.specs.Pointers.{mark_bit, address, sought, referent_at, signed, exact_sum, wrapped_sum, check_bits, check_at, in_reach}
 use Rattle.blocks.specs.Inner.{from_zero}
 use Rattle.blocks.specs.Tables.{referent_in}
-use Rattle.blocks.specs.declared.Referent.{Referent}
-use Rattle.blocks.specs.declared.Referent.TheVariants.{Found}
 use Rattle.common.proofs.Refusals.{first-goes-on}
 use Rattle.common.proofs.Booleans.{and_right, and_both, or_right}
 use Rattle.blocks.proofs.Checks.{check-holds}
@@ -19,11 +17,9 @@ use Rattle.heap.specs.Views.{View, referent_of_pointer}
 use Rattle.heap.specs.Rules.{home_rules, plain_rules, beyond, state_rules, address_rules}
 use Rattle.heap.specs.Effects.{pointer_at, value, stored, Outcome, settled}
 use Rattle.heap.specs.Heaps.{Heap, heap_of, heap_view, inside_by_check, entered, heap_step, bit, check_step, outcome}
-use Rattle.heap.specs.Inner.{Sound, Ready, Holding, stepped_in, located, located_plain}
+use Rattle.heap.specs.Inner.{Sound, Ready, Holding, stepped_in, Refused, Inside, located, located_plain}
 use Rattle.heap.specs.declared.Answer.{Answer}
 use Rattle.heap.specs.declared.Call.TheVariants.{Step}
-use Rattle.heap.specs.declared.refusals.Located.{Located}
-use Rattle.heap.specs.declared.refusals.Located.TheVariants.{Refused, Inside}
 use Rattle.heap.proofs.Settling.{answer, settled-refused}
 use Rattle.heap.proofs.Judging.{ready-first, sound-sized, sizes-right}
 use Rattle.heap.proofs.Homes.{has-home, is_plain, home-inside, plain-inside, plain-to-number}
@@ -132,15 +128,15 @@ module _ (t m : ℕ) (a tab : List ℕ) (p i s e : ℕ) (f : referent_at (refere
   inside_is = rw (f, sought-exact (referent_in t tab) (sought t p) s e (wrapped_sum (address p) i) f)
 
 -- where `locate` leads it to a number
-pub step-missing : {t m : ℕ} {a tab : List ℕ} {p i k : ℕ} {l : Located} {r : Answer} → Ready t m (Step p i) a tab
-    → l ≡ located (heap_view t m (heap_of [] tab)) p → l ≡ Refused k → r ≡ answer k 0 → outcome r a tab ≡ heap_step t m (Step p i) (heap_of a tab)
+pub step-missing : {t m : ℕ} {a tab : List ℕ} {p i k : ℕ} → Ready t m (Step p i) a tab → Refused k ≡ located (heap_view t m (heap_of [] tab)) p
+    → outcome (answer k 0) a tab ≡ heap_step t m (Step p i) (heap_of a tab)
 unfolding state_rules
-step-missing {t} {m} {a} {tab} {p} {i} z found is e =
+step-missing {t} {m} {a} {tab} {p} {i} z found =
     let v : View = heap_view t m (heap_of a tab) in
-    led-refused z p (home_rules v p) (24 when beyond v p i ∷ []) (has-home v p) refl found is e
+    led-refused z p (home_rules v p) (24 when beyond v p i ∷ []) (has-home v p) refl found
 
 -- and is led there by no refusal
-module _ {t m : ℕ} {a tab : List ℕ} {p i s e : ℕ} (g : Ready t m (Step p i) a tab) (l : located (heap_view t m (heap_of a tab)) p ≡ Inside s e) where
+module _ {t m : ℕ} {a tab : List ℕ} {p i s e : ℕ} (g : Ready t m (Step p i) a tab) (l : Inside s e ≡ located (heap_view t m (heap_of a tab)) p) where
   abbrev v : View
   v = heap_view t m (heap_of a tab)
 
@@ -180,8 +176,8 @@ module _ {t m : ℕ} {a tab : List ℕ} {p i s e : ℕ} (g : Ready t m (Step p i
       → outcome r a tab ≡ heap_step t m (Step p i) (heap_of a tab)
   step-done u w y = rw (y, u, w) by-steps
 
--- the check, in a heap that is sound; `locate_plain` finds l
-module _ {t m : ℕ} {a tab : List ℕ} (g : Sound t m a tab) (p i : ℕ) {l : Located} (found : l ≡ located_plain (heap_view t m (heap_of [] tab)) p) where
+-- the check, in a heap that is sound, by what `locate_plain` finds in the table alone
+module _ {t m : ℕ} {a tab : List ℕ} (g : Sound t m a tab) (p i : ℕ) where
   abbrev y : View
   y = heap_view t m (heap_of a tab)
 
@@ -197,22 +193,22 @@ module _ {t m : ℕ} {a tab : List ℕ} (g : Sound t m a tab) (p i : ℕ) {l : L
   unfolding check_step
   check-is = ap (λ (k : ℕ). told k (y.inside p i)) (sym address-first)
 
-  pub check-led-refused : {k : ℕ} → l ≡ Refused k → {r : Answer} → r ≡ answer k 0 → r ≡ check_step t m p i (heap_of a tab)
-  check-led-refused {k} is u =
-      let (e, w) = plain-to-number y p k (sym found ∙ is) in
-      u ∙ ap (λ (o : Outcome Heap). o.answer) (settled-refused k (heap_of a tab) (bit (y.inside p i)) (heap_of a tab) w)
+  pub check-led-refused : {k : ℕ} → Refused k ≡ located_plain (heap_view t m (heap_of [] tab)) p → answer k 0 ≡ check_step t m p i (heap_of a tab)
+  check-led-refused {k} found =
+      let (e, w) = plain-to-number y p k found in
+      ap (λ (o : Outcome Heap). o.answer) (settled-refused k (heap_of a tab) (bit (y.inside p i)) (heap_of a tab) w)
       ∙ ap (λ (j : ℕ). told j (y.inside p i)) (sym e) ∙ check-is
 
-  module _ {s e : ℕ} (is : l ≡ Inside s e) where
+  module _ {s e : ℕ} (found : Inside s e ≡ located_plain (heap_view t m (heap_of [] tab)) p) where
     at_block : (first (plain_rules y p) ≡ 0) × (referent_of_pointer y p ≡ Found s e)
-    at_block = plain-inside y p (sym found ∙ is)
+    at_block = plain-inside y p found
 
     pub check-order : e < 32
     check-order = omega (arith, (found_within t m a tab g p _ _ at_block.1).order)
 
-    pub check-found : {b : Bool} → b ≡ check_bits e p (wrapped_sum p i) → {r : Answer} → r ≡ answer 0 (bit b) → r ≡ check_step t m p i (heap_of a tab)
+    pub check-found : {b : Bool} → b ≡ check_bits e p (wrapped_sum p i) → answer 0 (bit b) ≡ check_step t m p i (heap_of a tab)
     unfolding sought
-    check-found q u =
+    check-found q =
         let (k, f) = at_block in
         let h : check_bits e (from_zero (sought t p)) (wrapped_sum (address p) i) ≡ check_bits e p (wrapped_sum p i) = rw (is_plain y p k) in
-        u ∙ ap₂ told (sym k) (q ∙ sym h ∙ sym (inside_is t m a tab p i s e f)) ∙ check-is
+        ap₂ told (sym k) (q ∙ sym h ∙ sym (inside_is t m a tab p i s e f)) ∙ check-is

@@ -1,7 +1,14 @@
 -- Document 01, "A take": answers as bytes, five for each.
-use Rattle.std.specs.Prelude.{ℕ, ◌%◌, List, [], ◌∷◌, ◌++◌}
+use Rattle.std.specs.Prelude.{ℕ, ◌%◌, List, [], ◌∷◌, ◌++◌, Result, Ok, Err}
+use Rattle.common.specs.declared.reasons.Refusal.{Refusal}
 use Rattle.common.specs.Bytes.{bytes_of}
+use Rattle.common.specs.Numbers.{number_of}
 use Rattle.heap.specs.declared.Answer.{Answer}
+
+-- the answer of a call, by what its code returns: the number of the refusal, 0 for none, and the value
+abbrev pub answer_of : Result ℕ Refusal → Answer
+answer_of (Ok v) = record { number = 0; value = v }
+answer_of (Err reason) = record { number = number_of reason; value = 0 }
 
 abbrev pub answer_length : ℕ
 answer_length = 5

@@ -2,12 +2,10 @@
 use Rattle.std.specs.Prelude.{ℕ, ◌-◌, ◌/◌, ◌^◌, Bool, false, cond, not, ◌&&◌, List, [], ◌∷◌, length, take, drop, replicate, ◌==◌}
 use Rattle.common.specs.Refusals.{◌when◌, first}
 use Rattle.common.specs.Bytes.{over}
-use Rattle.blocks.specs.Blocks.{base, start_in, order_in}
+use Rattle.blocks.specs.Blocks.{base, start_in, order_in, Referent, Missing, Found}
 use Rattle.blocks.specs.Tables.{entry_of, damaged_by, free_in, locked_in, referent_in}
 use Rattle.blocks.specs.Pointers.{sought, pointer_referent, address, wrapped_sum, check_at}
 use Rattle.blocks.specs.Orders.{is_arena_order, order_of}
-use Rattle.blocks.specs.declared.Referent.{Referent}
-use Rattle.blocks.specs.declared.Referent.TheVariants.{Missing, Found}
 use Rattle.heap.specs.Views.{View, slot_order, referent_of_pointer, left_from, needed_for, start_for}
 use Rattle.heap.specs.Rules.{rules, address_rules}
 use Rattle.heap.specs.Effects.{value, stored, Outcome, judged}

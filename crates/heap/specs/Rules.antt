@@ -2,10 +2,8 @@
 -- they are judged.
 use Rattle.std.specs.Prelude.{ℕ, ◌*◌, ◌^◌, Bool, false, not, ◌||◌, ltb, leb, List, [], ◌∷◌, ◌++◌, ◌==◌, nat_le, nat_lt}
 use Rattle.common.specs.Refusals.{Refusal, ◌when◌}
-use Rattle.blocks.specs.Blocks.{missing}
+use Rattle.blocks.specs.Blocks.{missing, Referent, Missing, Found}
 use Rattle.blocks.specs.Pointers.{marked, address, sought, outside_at, exact_sum, in_reach}
-use Rattle.blocks.specs.declared.Referent.{Referent}
-use Rattle.blocks.specs.declared.Referent.TheVariants.{Missing, Found}
 use Rattle.heap.specs.Views.{View, referent_of_pointer, left_from, place_for, no_place}
 use Rattle.heap.specs.declared.Call.{Call}
 use Rattle.heap.specs.declared.Call.TheVariants.{Get, Give, Step, Read, Write, Left, Copy, Fill, SetLock, Grid}

@@ -1,12 +1,9 @@
 -- What a call is judged by. A view is made of a table, and once more of the ledger's pairs; the rules and values are said once, over a view.
 use Rattle.std.specs.Prelude.{ℕ, ◌+◌, ◌*◌, ◌^◌, Bool, true, false}
-use Rattle.blocks.specs.Blocks.{base, left_in}
+use Rattle.blocks.specs.Blocks.{base, left_in, Referent}
 use Rattle.blocks.specs.Pointers.{pointer_referent}
 use Rattle.blocks.specs.Orders.{needed_order}
-use Rattle.blocks.specs.Placing.{place_in}
-use Rattle.blocks.specs.declared.Referent.{Referent}
-use Rattle.blocks.specs.declared.Place.{Place}
-use Rattle.blocks.specs.declared.Place.TheVariants.{At, Nothing}
+use Rattle.blocks.specs.Placing.{place_in, Place, At, Nothing}
 
 -- the order of a slot in every public call
 abbrev pub slot_order : ℕ

@@ -1,23 +1,26 @@
-// Answers: made, and stored in an answer slice.
+// Answers as C and an answer slice have them: made of what a call returns, and stored.
 ghost use Rattle.std.specs.Prelude.{◌≡◌, ◌+◌, ◌≤◌, length};
 ghost use Rattle.common.specs.Bytes.{over};
-ghost use Rattle.heap.specs.Answers.{answer_length, answer_bytes};
+ghost use Rattle.heap.specs.Answers.{answer_length, answer_bytes, answer_of};
 
 use crate::Answer;
+use common::Refusal;
 
 // How many bytes an answer takes in an answer slice.
 pub const ANSWER_LENGTH: usize = 5;
 
-pub fn accepted(value: u32) -> Answer
-    ensures { result ≡ record { number = 0; value = value } }
-{
-    Answer { number: 0, value }
-}
+impl From<Result<u32, Refusal>> for Answer {
+    ghost from_gives = { λ outcome answer. answer ≡ answer_of outcome };
 
-pub fn refused(number: u32) -> Answer
-    ensures { result ≡ record { number = number; value = 0 } }
-{
-    Answer { number, value: 0 }
+    fn from(outcome: Result<u32, Refusal>) -> Answer {
+        match outcome {
+            Ok(value) => Answer { number: 0, value },
+            Err(reason) => Answer {
+                number: u32::from(reason),
+                value: 0,
+            },
+        }
+    }
 }
 
 // Stores an answer from `at` on: its number in a byte, then its value big-endian.

@@ -2,10 +2,15 @@
 // and then call their inner function in `unchecked`.
 #![tactic(auto)]
 
-ghost use Rattle.std.specs.Prelude.{◌≡◌, ◌+◌, true, false};
+ghost use Rattle.std.specs.Prelude.{◌≡◌, ◌+◌, true, false, IfOk, IfErr};
+ghost use Rattle.common.specs.Numbers.{number_of};
+ghost use Rattle.heap.specs.Answers.{answer_of};
+ghost use Rattle.heap.specs.Effects.{refused};
 ghost use Rattle.heap.specs.Heaps.{heap_of, outcome, heap_call, heap_fresh, heap_check, shown, shown_by_left, shown_from};
+ghost use Rattle.heap.specs.Inner.{Judged};
 
 use blocks::BASE;
+use common::Refusal;
 
 pub mod answers;
 pub mod operations;
@@ -17,9 +22,9 @@ pub mod unchecked;
 // The order of a slot in every public call: a slot has 16 bytes.
 pub const SLOT_ORDER: u32 = 4;
 
-// What a call answers: the number of its refusal, 0 for none, and its value.
+// What a call answers, as C and an answer slice have it: the number of its refusal, 0 for none, and its value.
 #[repr(C)]
-#[derive(Clone, Copy)]
+#[derive(Clone, Copy, Debug, PartialEq, Eq)]
 pub struct Answer {
     pub number: u32,
     pub value: u32,
@@ -42,152 +47,114 @@ pub enum Call {
 }
 
 // Makes the heap fresh: both buffers all zero.
-pub fn fresh(arena: &mut [u8], table: &mut [u8]) -> Answer
-    ensures { outcome result arena.new table.new ≡ heap_fresh (heap_of arena.old table.old) }
+pub fn fresh(arena: &mut [u8], table: &mut [u8]) -> Result<u32, Refusal>
+    ensures { outcome (answer_of result) arena.new table.new ≡ heap_fresh (heap_of arena.old table.old) }
 {
-    if sizes::order_of(arena, table, SLOT_ORDER) == 0 {
-        return answers::refused(8);
-    }
+    sizes::order_of(arena, table, SLOT_ORDER).ok_or(Refusal::WrongSizes)?;
     let n = arena.len();
     common::fill(arena, 0, n, 0);
     let k = table.len();
     common::fill(table, 0, k, 0);
-    answers::accepted(0)
+    Ok(0)
+}
+
+// The arena's order, where a call is not refused before it is carried out: by the lengths, its arguments or the table's damage, in this order. (Not inlined, it
+// is handed each call in memory, and a direct call takes 2 to 4 ns more.)
+#[inline(always)]
+fn judge(arena: &[u8], table: &[u8], call: Call) -> Result<u32, Refusal>
+    ensures refused { IfErr result (λ reason. outcome (refused (number_of reason)) arena.now table.now
+        ≡ heap_call call (heap_of arena.now table.now)) }
+    ensures ready { IfOk result (λ m. Judged call arena.now table.now m) }
+{
+    let m = sizes::order_of(arena, table, SLOT_ORDER).ok_or(Refusal::WrongSizes)?;
+    refusals::before_call(table, SLOT_ORDER, m, call)?;
+    Ok(m)
 }
 
 // The start of a new block of at least n bytes, the whole of it 0.
-pub fn get(arena: &mut [u8], table: &mut [u8], n: u32) -> Answer
-    ensures { outcome result arena.new table.new ≡ heap_call (Call.Get n) (heap_of arena.old table.old) }
+pub fn get(arena: &mut [u8], table: &mut [u8], n: u32) -> Result<u32, Refusal>
+    ensures { outcome (answer_of result) arena.new table.new ≡ heap_call (Call.Get n) (heap_of arena.old table.old) }
 {
-    let m = sizes::order_of(arena, table, SLOT_ORDER);
-    let number = refusals::before_call(table, SLOT_ORDER, m, refusals::arguments(m, Call::Get(n)));
-    if number != 0 {
-        return answers::refused(number);
-    }
+    let m = judge(arena, table, Call::Get(n))?;
     unchecked::get(arena, table, SLOT_ORDER, m, n)
 }
 
 // Gives the block that starts at p back.
-pub fn give(arena: &[u8], table: &mut [u8], p: u32) -> Answer
-    ensures { outcome result arena.now table.new ≡ heap_call (Call.Give p) (heap_of arena.now table.old) }
+pub fn give(arena: &[u8], table: &mut [u8], p: u32) -> Result<u32, Refusal>
+    ensures { outcome (answer_of result) arena.now table.new ≡ heap_call (Call.Give p) (heap_of arena.now table.old) }
 {
-    let m = sizes::order_of(arena, table, SLOT_ORDER);
-    let number = refusals::before_call(table, SLOT_ORDER, m, refusals::arguments(m, Call::Give(p)));
-    if number != 0 {
-        return answers::refused(number);
-    }
+    let m = judge(arena, table, Call::Give(p))?;
     unchecked::give(arena, table, SLOT_ORDER, m, p)
 }
 
 // The pointer i bytes on from p, i a signed number in two's complement: plain inside p's referent, marked in its reach.
-pub fn step(arena: &[u8], table: &[u8], p: u32, i: u32) -> Answer
-    ensures { outcome result arena.now table.now ≡ heap_call (Call.Step p i) (heap_of arena.now table.now) }
+pub fn step(arena: &[u8], table: &[u8], p: u32, i: u32) -> Result<u32, Refusal>
+    ensures { outcome (answer_of result) arena.now table.now ≡ heap_call (Call.Step p i) (heap_of arena.now table.now) }
 {
-    let m = sizes::order_of(arena, table, SLOT_ORDER);
-    let number = refusals::before_call(
-        table,
-        SLOT_ORDER,
-        m,
-        refusals::arguments(m, Call::Step(p, i)),
-    );
-    if number != 0 {
-        return answers::refused(number);
-    }
+    let m = judge(arena, table, Call::Step(p, i))?;
     unchecked::step(arena, table, SLOT_ORDER, m, p, i)
 }
 
 // The w bytes at p as an unsigned big-endian number.
-pub fn read(arena: &[u8], table: &[u8], p: u32, w: u8) -> Answer
-    ensures { outcome result arena.now table.now ≡ heap_call (Call.Read p w) (heap_of arena.now table.now) }
+pub fn read(arena: &[u8], table: &[u8], p: u32, w: u8) -> Result<u32, Refusal>
+    ensures { outcome (answer_of result) arena.now table.now ≡ heap_call (Call.Read p w) (heap_of arena.now table.now) }
 {
-    let m = sizes::order_of(arena, table, SLOT_ORDER);
-    let number = refusals::before_call(
-        table,
-        SLOT_ORDER,
-        m,
-        refusals::arguments(m, Call::Read(p, w)),
-    );
-    if number != 0 {
-        return answers::refused(number);
-    }
+    let m = judge(arena, table, Call::Read(p, w))?;
     unchecked::read(arena, table, SLOT_ORDER, m, p, w)
 }
 
 // Stores v at p in w bytes, big-endian.
-pub fn write(arena: &mut [u8], table: &[u8], p: u32, w: u8, v: u32) -> Answer
-    ensures { outcome result arena.new table.now ≡ heap_call (Call.Write p w v) (heap_of arena.old table.now) }
+pub fn write(arena: &mut [u8], table: &[u8], p: u32, w: u8, v: u32) -> Result<u32, Refusal>
+    ensures { outcome (answer_of result) arena.new table.now ≡ heap_call (Call.Write p w v) (heap_of arena.old table.now) }
 {
-    let m = sizes::order_of(arena, table, SLOT_ORDER);
-    let number = refusals::before_call(
-        table,
-        SLOT_ORDER,
-        m,
-        refusals::arguments(m, Call::Write(p, w, v)),
-    );
-    if number != 0 {
-        return answers::refused(number);
-    }
+    let m = judge(arena, table, Call::Write(p, w, v))?;
     unchecked::write(arena, table, SLOT_ORDER, m, p, w, v)
 }
 
 // Bytes from p to its referent's end, both counted.
-pub fn left(arena: &[u8], table: &[u8], p: u32) -> Answer
-    ensures { outcome result arena.now table.now ≡ heap_call (Call.Left p) (heap_of arena.now table.now) }
+pub fn left(arena: &[u8], table: &[u8], p: u32) -> Result<u32, Refusal>
+    ensures { outcome (answer_of result) arena.now table.now ≡ heap_call (Call.Left p) (heap_of arena.now table.now) }
 {
-    let m = sizes::order_of(arena, table, SLOT_ORDER);
-    let number = refusals::before_call(table, SLOT_ORDER, m, refusals::arguments(m, Call::Left(p)));
-    if number != 0 {
-        return answers::refused(number);
-    }
+    let m = judge(arena, table, Call::Left(p))?;
     unchecked::left(arena, table, SLOT_ORDER, m, p)
 }
 
 // Copies up to n bytes from q to p, as many as both referents hold: what stood at q before the call, whichever way the two ranges overlap.
-pub fn copy(arena: &mut [u8], table: &[u8], p: u32, q: u32, n: u32) -> Answer
-    ensures { outcome result arena.new table.now ≡ heap_call (Call.Copy p q n) (heap_of arena.old table.now) }
+pub fn copy(arena: &mut [u8], table: &[u8], p: u32, q: u32, n: u32) -> Result<u32, Refusal>
+    ensures { outcome (answer_of result) arena.new table.now ≡ heap_call (Call.Copy p q n) (heap_of arena.old table.now) }
 {
-    let m = sizes::order_of(arena, table, SLOT_ORDER);
-    let number = refusals::before_call(
-        table,
-        SLOT_ORDER,
-        m,
-        refusals::arguments(m, Call::Copy(p, q, n)),
-    );
-    if number != 0 {
-        return answers::refused(number);
-    }
+    let m = judge(arena, table, Call::Copy(p, q, n))?;
     unchecked::copy(arena, table, SLOT_ORDER, m, p, q, n)
 }
 
 // Stores v in up to n bytes from p on, as many as its referent holds.
-pub fn fill(arena: &mut [u8], table: &[u8], p: u32, v: u8, n: u32) -> Answer
-    ensures { outcome result arena.new table.now ≡ heap_call (Call.Fill p v n) (heap_of arena.old table.now) }
+pub fn fill(arena: &mut [u8], table: &[u8], p: u32, v: u8, n: u32) -> Result<u32, Refusal>
+    ensures { outcome (answer_of result) arena.new table.now ≡ heap_call (Call.Fill p v n) (heap_of arena.old table.now) }
 {
-    let m = sizes::order_of(arena, table, SLOT_ORDER);
-    let number = refusals::before_call(
-        table,
-        SLOT_ORDER,
-        m,
-        refusals::arguments(m, Call::Fill(p, v, n)),
-    );
-    if number != 0 {
-        return answers::refused(number);
-    }
+    let m = judge(arena, table, Call::Fill(p, v, n))?;
     unchecked::fill(arena, table, SLOT_ORDER, m, p, v, n)
 }
 
 // Locks the block that holds p: write, fill, copy into it and give are refused from then on.
-pub fn lock(arena: &[u8], table: &mut [u8], p: u32) -> Answer
-    ensures { outcome result arena.now table.new ≡ heap_call (Call.SetLock p true) (heap_of arena.now table.old) }
+pub fn lock(arena: &[u8], table: &mut [u8], p: u32) -> Result<u32, Refusal>
+    ensures { outcome (answer_of result) arena.now table.new ≡ heap_call (Call.SetLock p true) (heap_of arena.now table.old) }
 {
     set_lock(arena, table, p, true)
 }
 
 // Unlocks it.
-pub fn unlock(arena: &[u8], table: &mut [u8], p: u32) -> Answer
-    ensures { outcome result arena.now table.new ≡ heap_call (Call.SetLock p false) (heap_of arena.now table.old) }
+pub fn unlock(arena: &[u8], table: &mut [u8], p: u32) -> Result<u32, Refusal>
+    ensures { outcome (answer_of result) arena.now table.new ≡ heap_call (Call.SetLock p false) (heap_of arena.now table.old) }
 {
     set_lock(arena, table, p, false)
+}
+
+// Locks the block that holds p, or unlocks it.
+fn set_lock(arena: &[u8], table: &mut [u8], p: u32, locked: bool) -> Result<u32, Refusal>
+    ensures { outcome (answer_of result) arena.now table.new ≡ heap_call (Call.SetLock p locked) (heap_of arena.now table.old) }
+{
+    let m = judge(arena, table, Call::SetLock(p, locked))?;
+    unchecked::set_lock(arena, table, SLOT_ORDER, m, p, locked)
 }
 
 // The address of a place in a grid of rows × columns bytes that starts at p and lies in its referent, row by row.
@@ -199,67 +166,36 @@ pub fn grid(
     columns: u8,
     row: u8,
     column: u8,
-) -> Answer
-    ensures { outcome result arena.now table.now
+) -> Result<u32, Refusal>
+    ensures { outcome (answer_of result) arena.now table.now
         ≡ heap_call (Call.Grid p rows columns row column) (heap_of arena.now table.now) }
 {
-    let m = sizes::order_of(arena, table, SLOT_ORDER);
-    let number = refusals::before_call(
-        table,
-        SLOT_ORDER,
-        m,
-        refusals::arguments(m, Call::Grid(p, rows, columns, row, column)),
-    );
-    if number != 0 {
-        return answers::refused(number);
-    }
+    let m = judge(arena, table, Call::Grid(p, rows, columns, row, column))?;
     unchecked::grid(arena, table, SLOT_ORDER, m, p, rows, columns, row, column)
 }
 
 // The check of the plain address p and the step i: 1 where the sum stays in p's referent, else 0. It is in no list of calls and judges by its own short
-// list. (With that the scan has two callers: the compiler keeps it apart, and puts the judging into each call.)
-pub fn check(arena: &[u8], table: &[u8], p: u32, i: u32) -> Answer
-    ensures { result ≡ heap_check p i (heap_of arena.now table.now) }
+// list. (With that the scan is called from two places: the compiler keeps it apart, and puts the judging into each call.)
+pub fn check(arena: &[u8], table: &[u8], p: u32, i: u32) -> Result<u32, Refusal>
+    ensures { answer_of result ≡ heap_check p i (heap_of arena.now table.now) }
 {
-    let m = sizes::order_of(arena, table, SLOT_ORDER);
-    if m == 0 {
-        return answers::refused(8);
-    }
+    let m = sizes::order_of(arena, table, SLOT_ORDER).ok_or(Refusal::WrongSizes)?;
     if blocks::damaged(table, SLOT_ORDER, m) {
-        return answers::refused(20);
+        return Err(Refusal::Damaged);
     }
     unchecked::check(arena, table, SLOT_ORDER, m, p, i)
 }
 
-// The part of the arena from p to its referent's end, a part and no copy; empty if refused. Its number is the one that left gives.
+// The part of the arena from p to its referent's end, a part and no copy; empty if refused, by what left refuses.
 pub fn show<'a>(arena: &'a [u8], table: &[u8], p: u32) -> &'a [u8]
     ensures part { result.now ≡ shown p (heap_of arena.now table.now) }
     ensures by_left { result.now ≡ shown_by_left p (heap_of arena.now table.now) }
     ensures place { result.ref_ptr ≡ (arena.entry.ref_ptr.0, arena.entry.ref_ptr.1 + shown_from p (heap_of arena.now table.now)) }
 {
-    let answer = left(arena, table, p);
-    if answer.number != 0 {
+    let Ok(count) = left(arena, table, p) else {
         return &arena[0..0];
-    }
+    };
     let at = (p - BASE) as usize;
-    let end = at + answer.value as usize;
+    let end = at + count as usize;
     &arena[at..end]
-}
-
-// Locks the block that holds p, or unlocks it.
-fn set_lock(arena: &[u8], table: &mut [u8], p: u32, locked: bool) -> Answer
-    ensures { outcome result arena.now table.new
-        ≡ heap_call (Call.SetLock p locked) (heap_of arena.now table.old) }
-{
-    let m = sizes::order_of(arena, table, SLOT_ORDER);
-    let number = refusals::before_call(
-        table,
-        SLOT_ORDER,
-        m,
-        refusals::arguments(m, Call::SetLock(p, locked)),
-    );
-    if number != 0 {
-        return answers::refused(number);
-    }
-    unchecked::set_lock(arena, table, SLOT_ORDER, m, p, locked)
 }

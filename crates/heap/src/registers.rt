@@ -1,8 +1,9 @@
 // The sixteen registers that a take's records take from and put to.
-ghost use Rattle.std.specs.Prelude.{◌≡◌, slice_set};
-ghost use Rattle.heap.specs.Registers.{registers_at_first, put_to, put_number, put_in};
+ghost use Rattle.std.specs.Prelude.{◌≡◌};
+ghost use Rattle.common.specs.Numbers.{number_in};
+ghost use Rattle.heap.specs.Registers.{registers_at_first, put_to, put_in};
 
-use common::index;
+use common::Refusal;
 
 // How many there are.
 pub const COUNT: usize = 16;
@@ -19,29 +20,15 @@ pub fn at_first() -> Registers
     Registers { values: [0; COUNT] }
 }
 
-// The registers with v in d.
-fn with_value(registers: Registers, d: u8, v: u32) -> Registers
-    ensures { result.values ≡ slice_set registers.values d v }
-{
-    let mut next = registers;
-    let i = index(d);
-    if i < COUNT {
-        next.values[i] = v;
-    }
-    next
-}
-
-// 7 where there is no register d, else 0.
-fn number_for(d: u8) -> u32
-    ensures { result ≡ put_number d }
-{
-    if index(d) < COUNT { 0 } else { 7 }
-}
-
 // Puts v in register d of a lent struct. Refused 7 where there is no such register, and nothing is changed.
-pub fn put(registers: &mut Registers, d: u8, v: u32) -> u32
-    ensures { put_to result registers.new.values ≡ put_in d v registers.old.values }
+#[tactic(auto, unfolding(crate::specs::Registers::put_in))]
+pub fn put(registers: &mut Registers, d: u8, v: u32) -> Result<(), Refusal>
+    ensures { put_to (number_in result) registers.new.values ≡ put_in d v registers.old.values }
 {
-    *registers = with_value(*registers, d, v);
-    number_for(d)
+    let place = usize::from(d);
+    if COUNT <= place {
+        return Err(Refusal::NoRegister);
+    }
+    registers.values[place] = v;
+    Ok(())
 }

@@ -4,9 +4,9 @@ use mathlib.Core.Path.{◌≡◌}
 use mathlib.Core.Bool.{true}
 use mathlib.Core.List.{List, [], ◌∷◌}
 use lib.ListN.{length}
-use Rattle.blocks.specs.Blocks.{Block, holds, Aligned}
+use Rattle.blocks.specs.Blocks.{holds, Aligned, Missing}
+use Rattle.blocks.specs.declared.Block.{Block}
 use Rattle.blocks.specs.Sets.{ranges, referent_of, table_of}
-use Rattle.blocks.specs.declared.Referent.TheVariants.{Missing}
 use Rattle.heap.specs.Effects.{Outcome}
 use Rattle.heap.specs.Heaps.{Heap}
 use Rattle.history.specs.Ledgers.{Ledger}

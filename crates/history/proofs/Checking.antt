@@ -13,10 +13,10 @@ use lib.ListN.{length, get_or}
 use lib.Signed.{le_z}
 use lib.Pow.{pow_pos, pow_mono, low}
 use borrow.Author.Tests.{leb-true, ltb-true, le-leb, lt-leb, lt-ltb, le-ltb}
-use Rattle.blocks.specs.Blocks.{base, Block, holds, Aligned}
+use Rattle.blocks.specs.Blocks.{base, holds, Aligned, Found}
+use Rattle.blocks.specs.declared.Block.{Block}
 use Rattle.blocks.specs.Sets.{ranges}
 use Rattle.blocks.specs.Pointers.{mark_bit, marked, address, sought, signed, exact_sum, within, in_reach}
-use Rattle.blocks.specs.declared.Referent.TheVariants.{Found}
 use Rattle.common.proofs.Booleans.{and_left, and_right, or_cases}
 use Rattle.blocks.proofs.Floors.{pow-split}
 use Rattle.blocks.proofs.Outside.{held-inside}

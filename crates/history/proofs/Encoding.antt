@@ -1,25 +1,19 @@
 -- Calls as bytes: one call read, and the calls from one place on, of which each law opens the first (`one_more`, `next_place`).
-use Prim.Native.Nat.{ℕ, suc, ◌+◌, ◌-◌, ◌*◌, ◌≤◌, ◌<◌}
-use mathlib.Core.Path.{◌≡◌, refl}
-use mathlib.Core.Bool.{true, false, not, ◌||◌}
+use Prim.Native.Nat.{ℕ, zero, suc, ◌+◌, ◌-◌, ◌*◌, ◌≤◌, ◌<◌}
+use mathlib.Core.Path.{◌≡◌, refl, sym, ◌∙◌, subst}
+use mathlib.Core.Bool.{Bool, true, false, not, ◌||◌, false≢true}
 use mathlib.Core.List.{List, ◌∷◌}
+use native.Mathlib.Nat.{sub-zero}
 use native.Mathlib.Omega.{arith}
 use lib.ListN.{get_or}
 use Rattle.common.specs.Bytes.{big_endian}
 use Rattle.heap.specs.OperationNumbers.{names_call}
-use Rattle.common.proofs.Arms.{NoneOf, no_arm}
-use Rattle.history.specs.Replaying.{call_length, grid_from, call_named, second_byte, call_at, calls_from, unknown_from}
+use Rattle.history.specs.Replaying.{call_length, call_named, second_byte, call_at, calls_from, unknown_from}
 
 module _ (s : List ℕ) (at a b c : ℕ) (x : a ≡ big_endian s (at + 2) 4) (y : b ≡ big_endian s (at + 6) 4) (z : c ≡ big_endian s (at + 10) 4) where
   pub call-is : (k : ℕ) → get_or s at 0 ≡ k → call_named k (get_or s (at + 1) 0) a b c (second_byte s at) ≡ call_at s at
   unfolding call_at
   call-is k e = rw (x, y, z, e)
-
--- no arm before has the operation
-pub grid-is : (k x a b c : ℕ) (y : ℕ → ℕ) → NoneOf k 10 → grid_from a y ≡ call_named k x a b c y
-grid-is k x a b c y n =
-    let t = no_arm k 10 n in
-    rw (t 1 refl, t 2 refl, t 3 refl, t 4 refl, t 5 refl, t 6 refl, t 7 refl, t 8 refl, t 9 refl, t 10 refl)
 
 module _ (s : List ℕ) (n i : ℕ) (l : i < n) where
   one_more : n - i ≡ suc (n - (i + 1))
@@ -48,3 +42,22 @@ module _ (s : List ℕ) (n i : ℕ) (l : i < n) where
 pub none-unknown : (s : List ℕ) (n i : ℕ) → n ≤ i → unknown_from s (i * call_length) (n - i) ≡ false
 unfolding unknown_from
 none-unknown s n i l = let z : n - i ≡ 0 = omega arith in rw z
+
+-- where none of the n calls is unknown, none from call i on is, and so each is known
+module _ (s : List ℕ) (n : ℕ) (z : unknown_from s 0 n ≡ false) where
+  known-at : (i : ℕ) → i < n → unknown_from s (i * call_length) (n - i) ≡ false → names_call (get_or s (i * call_length) 0) ≡ true
+  known-at i l h = go (names_call (get_or s (i * call_length) 0)) refl
+    where
+      go : (b : Bool) → names_call (get_or s (i * call_length) 0) ≡ b → b ≡ true
+      go true e = refl
+      go false e = absurd (false≢true (sym h ∙ unknown-found s n i l e))
+
+  none-from : (i : ℕ) → i ≤ n → unknown_from s (i * call_length) (n - i) ≡ false
+  none-from zero l = simp sub-zero z
+  none-from (suc i) l =
+      let h = none-from i (omega arith) in
+      subst (λ (k : ℕ). unknown_from s (k * call_length) (n - k) ≡ false) (omega arith)
+      (sym (known-here s n i (omega arith) (known-at i (omega arith) h)) ∙ h)
+
+  pub all-known : (i : ℕ) → i < n → names_call (get_or s (i * call_length) 0) ≡ true
+  all-known i l = known-at i l (none-from i (omega arith))

@@ -9,7 +9,8 @@ use native.Mathlib.Omega.{arith}
 use lib.ListN.{replicate, get_or}
 use lib.Seq.{get_or-append-add}
 use Rattle.common.specs.Bytes.{big_endian}
-use Rattle.blocks.specs.Blocks.{base, floor, Block, holds}
+use Rattle.blocks.specs.Blocks.{base, floor, holds}
+use Rattle.blocks.specs.declared.Block.{Block}
 use Rattle.blocks.specs.Tables.{any, entry_order, referent_in}
 use Rattle.heap.specs.Heaps.{Heap, heap_of, heap_call}
 use Rattle.heap.specs.declared.Answer.{Answer}

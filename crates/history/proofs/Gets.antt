@@ -9,11 +9,10 @@ use lib.Dec.{eqb}
 use lib.Pow.{pow-add, pow_mono}
 use borrow.Author.Tests.{ltb-false}
 use Rattle.common.specs.Refusals.{first}
-use Rattle.blocks.specs.Blocks.{base, Block, holds, Aligned}
+use Rattle.blocks.specs.Blocks.{base, holds, Aligned, Missing}
+use Rattle.blocks.specs.declared.Block.{Block}
 use Rattle.blocks.specs.Sets.{ranges, referent_of}
-use Rattle.blocks.specs.declared.Place.{Place}
-use Rattle.blocks.specs.declared.Place.TheVariants.{At, Nothing}
-use Rattle.blocks.specs.declared.Referent.TheVariants.{Missing}
+use Rattle.blocks.specs.Placing.{Place, At, Nothing}
 use Rattle.common.proofs.Booleans.{or-false-right}
 use Rattle.blocks.proofs.Floors.{pow-split}
 use Rattle.blocks.proofs.Orders.{Needed, needed-order}

@@ -12,11 +12,10 @@ use lib.Seq.{get_or-take, get_or-drop}
 use borrow.Author.Tests.{ltb-false, eqb-true, eqb-false}
 use Rattle.common.specs.Refusals.{first}
 use Rattle.common.proofs.Bytes.{big_endian-same, over-same}
-use Rattle.blocks.specs.Blocks.{base, Block, holds, missing}
+use Rattle.blocks.specs.Blocks.{base, holds, missing, Referent, Missing, Found}
+use Rattle.blocks.specs.declared.Block.{Block}
 use Rattle.blocks.specs.Sets.{Pair, ranges, referent_of}
 use Rattle.blocks.specs.Pointers.{marked}
-use Rattle.blocks.specs.declared.Referent.{Referent}
-use Rattle.blocks.specs.declared.Referent.TheVariants.{Missing, Found}
 use Rattle.common.proofs.Booleans.{and-false-left, or-false-left, or-false-right}
 use Rattle.blocks.proofs.Sets.{held_low, held_high}
 use Rattle.blocks.proofs.Slots.{block}

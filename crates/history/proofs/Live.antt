@@ -6,7 +6,7 @@ use mathlib.Core.Bool.{Bool, true, false, cond, ◌&&◌, ◌||◌, and-false}
 use mathlib.Core.List.{List, [], ◌∷◌, ◌++◌, append-nil, append_assoc}
 use lib.Dec.{eqb}
 use Rattle.common.specs.Refusals.{first}
-use Rattle.blocks.specs.Blocks.{Block}
+use Rattle.blocks.specs.declared.Block.{Block}
 use Rattle.blocks.specs.Sets.{ranges}
 use Rattle.common.proofs.Booleans.{eqb-suc, eqb_swap}
 use Rattle.heap.specs.Views.{View}

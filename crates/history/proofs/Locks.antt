@@ -6,9 +6,9 @@ use mathlib.Core.Bool.{Bool, true, false, cond, false≢true}
 use mathlib.Core.List.{List, [], ◌∷◌, ◌++◌, Memᴰ}
 use lib.Dec.{eqb}
 use borrow.Author.Tests.{eqb-true}
-use Rattle.blocks.specs.Blocks.{Block, holds, missing}
+use Rattle.blocks.specs.Blocks.{holds, missing, Missing, Found}
+use Rattle.blocks.specs.declared.Block.{Block}
 use Rattle.blocks.specs.Sets.{Pair, ranges, PairSet, referent_of, locked_of}
-use Rattle.blocks.specs.declared.Referent.TheVariants.{Missing, Found}
 use Rattle.blocks.proofs.Sets.{range-in}
 use Rattle.history.specs.Ledgers.{without, relocked}
 use Rattle.history.proofs.Agreement.{Proper, more}

@@ -14,12 +14,11 @@ use mathlib.Core.List.{List, [], ◌∷◌}
 use lib.ListN.{length}
 use borrow.Author.Tests.{not-true}
 use Rattle.common.specs.Refusals.{first}
-use Rattle.blocks.specs.Blocks.{Block}
+use Rattle.blocks.specs.Blocks.{Referent, Found}
+use Rattle.blocks.specs.declared.Block.{Block}
 use Rattle.blocks.specs.Tables.{referent_in}
 use Rattle.blocks.specs.Sets.{ranges, referent_of}
 use Rattle.blocks.specs.Orders.{order_of}
-use Rattle.blocks.specs.declared.Referent.{Referent}
-use Rattle.blocks.specs.declared.Referent.TheVariants.{Found}
 use Rattle.common.proofs.Booleans.{and_left, and_right, or-false-left, or-false-right, or_true_right, eqb-suc}
 use Rattle.heap.specs.Views.{View, slot_order}
 use Rattle.heap.specs.Rules.{rules}

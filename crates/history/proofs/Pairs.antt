@@ -7,10 +7,9 @@ use mathlib.Core.List.{List, [], ◌∷◌, ◌++◌, Memᴰ}
 use native.Mathlib.Omega.{arith}
 use lib.Dec.{eqb}
 use borrow.Author.Tests.{lt-ltb, le-leb, eqb-true, eqb-false}
-use Rattle.blocks.specs.Blocks.{base, Block, holds, Aligned, missing}
+use Rattle.blocks.specs.Blocks.{base, holds, Aligned, missing, Referent, Missing, Found}
+use Rattle.blocks.specs.declared.Block.{Block}
 use Rattle.blocks.specs.Sets.{referent_of}
-use Rattle.blocks.specs.declared.Referent.{Referent}
-use Rattle.blocks.specs.declared.Referent.TheVariants.{Missing, Found}
 use Rattle.common.proofs.Booleans.{and_both}
 use Rattle.blocks.proofs.Sets.{BlockSet, found-member, missing-none, member-found, referent-slot}
 use Rattle.blocks.proofs.Slots.{block, slot_of, Slots, held-slots}

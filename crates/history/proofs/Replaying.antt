@@ -2,13 +2,15 @@
 -- the call and those after it (`played-next`).
 use Prim.Native.Nat.{ℕ, zero, suc, ◌+◌, ◌-◌, ◌*◌, ◌%◌, ◌≤◌, ◌<◌}
 use mathlib.Core.Path.{◌≡◌, refl, sym, ◌∙◌, ap, subst}
-use mathlib.Core.Bool.{Bool, not, cond, false≢true}
+use mathlib.Core.Bool.{Bool, true, not, cond}
 use mathlib.Core.List.{List, [], ◌∷◌}
 use native.Mathlib.Nat.{sub-zero}
 use native.Mathlib.Omega.{arith}
 use lib.Dec.{ltb, eqb}
-use lib.ListN.{length}
+use lib.ListN.{length, get_or}
 use borrow.Author.Tests.{ltb-false}
+use Rattle.std.proofs.Common.{Some}
+use Rattle.blocks.specs.Orders.{unless_zero}
 use Rattle.common.specs.Refusals.{first}
 use Rattle.common.specs.Bytes.{over}
 use Rattle.blocks.specs.Sets.{table_of}
@@ -20,7 +22,8 @@ use Rattle.heap.specs.Answers.{answer_length, answer_bytes, answers_bytes}
 use Rattle.heap.specs.declared.Answer.{Answer}
 use Rattle.heap.specs.declared.Call.{Call}
 use Rattle.common.proofs.Refusals.{clear}
-use Rattle.heap.proofs.Judging.{Sized, ordered}
+use Rattle.heap.proofs.Judging.{Sized, order-found}
+use Rattle.heap.specs.OperationNumbers.{names_call}
 use Rattle.heap.proofs.AnswerBytes.{answers_next, answers-none}
 use Rattle.history.specs.Ledgers.{Ledger, ledger_step, empty_ledger}
 use Rattle.history.specs.CallLists.{run}
@@ -28,7 +31,7 @@ use Rattle.history.specs.Replaying.{call_length, call_at, calls_from, call_count
 use Rattle.history.proofs.Agreement.{Orders, Agree}
 use Rattle.history.proofs.Simulation.{agree-sound, step_same}
 use Rattle.history.proofs.CallLists.{fresh-agree, slot-orders, fresh-made}
-use Rattle.history.proofs.Encoding.{calls-here}
+use Rattle.history.proofs.Encoding.{calls-here, all-known}
 
 -- ---- the refusals
 
@@ -43,15 +46,16 @@ pub record Playable (m : ℕ) (calls a tab out : List ℕ) : Type 0 where
   pub sized : Sized slot_order a tab m
   pub room : answer_length * call_count calls ≤ length out
 
-pub playable : (m : ℕ) (calls a tab out : List ℕ) → m ≡ heap_order slot_order a tab → first (replay_rules calls (heap_of a tab) out) ≡ 0
+pub playable : (m : ℕ) (calls a tab out : List ℕ) → Some m ≡ unless_zero (heap_order slot_order a tab) → first (replay_rules calls (heap_of a tab) out) ≡ 0
     → Playable m calls a tab out
 playable m calls a tab out q z =
-    let o = ordered q in
     let c = clear (replay_rules calls (heap_of a tab) out) refl z in
-    record {
-      sized = o.sized (λ e. false≢true (sym (c 8) ∙ o.wrong e));
-      room = ltb-false (length out) (answer_length * call_count calls) (c 9);
-    }
+    record { sized = order-found slot_order a tab q; room = ltb-false (length out) (answer_length * call_count calls) (c 9) }
+
+-- every call of a list that is accepted names one
+pub names-one : (calls a tab out : List ℕ) → first (replay_rules calls (heap_of a tab) out) ≡ 0 → (i : ℕ) → i < call_count calls
+    → names_call (get_or calls (i * call_length) 0) ≡ true
+names-one calls a tab out z = all-known calls (call_count calls) (clear (replay_rules calls (heap_of a tab) out) refl z 5)
 
 pub refused-is : (calls a tab out : List ℕ) (n : ℕ) → n ≡ first (replay_rules calls (heap_of a tab) out) → (n ≡ 0 → ⊥)
     → replayed n a tab out ≡ replay_of calls (heap_of a tab) out

@@ -12,11 +12,10 @@ use lib.Pow.{pow_pos}
 use lib.Seq.{take_at, get_or_at}
 use borrow.Author.Tests.{eqb-false, ne_eqb, ltb-false, le-ltb}
 use Rattle.common.specs.Refusals.{first}
-use Rattle.blocks.specs.Blocks.{base, Block, holds, Aligned, missing}
+use Rattle.blocks.specs.Blocks.{base, holds, Aligned, missing}
+use Rattle.blocks.specs.declared.Block.{Block}
 use Rattle.blocks.specs.Sets.{ranges}
-use Rattle.blocks.specs.Placing.{all_free, range_start, free_range, place_in}
-use Rattle.blocks.specs.declared.Place.{Place}
-use Rattle.blocks.specs.declared.Place.TheVariants.{At, Nothing}
+use Rattle.blocks.specs.Placing.{all_free, range_start, free_range, place_in, Place, At, Nothing}
 use Rattle.common.proofs.Booleans.{or-false-left, or-false-right, true-together}
 use Rattle.blocks.proofs.Halves.{sizes}
 use Rattle.blocks.proofs.Places.{place-complete}

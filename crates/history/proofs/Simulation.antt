@@ -10,12 +10,11 @@ use lib.ListN.{length}
 use lib.Pow.{pow_pos, pow_mono}
 use borrow.Author.Tests.{eqb-true, not-false}
 use Rattle.common.specs.Refusals.{Refusal, first}
-use Rattle.blocks.specs.Blocks.{base, floor, Block, holds, Aligned, missing, start_in, order_in}
+use Rattle.blocks.specs.Blocks.{base, floor, holds, Aligned, missing, start_in, order_in, Referent, Missing, Found}
+use Rattle.blocks.specs.declared.Block.{Block}
 use Rattle.blocks.specs.Tables.{lock_bit, entry_of, damaged_by, free_in, locked_in, referent_in}
 use Rattle.blocks.specs.Sets.{Pair, ranges, referent_of, locked_of, entry_at, table_of}
 use Rattle.blocks.specs.Pointers.{mark_bit, marked, address, sought, referent_at, exact_sum, wrapped_sum, check_at, within}
-use Rattle.blocks.specs.declared.Referent.{Referent}
-use Rattle.blocks.specs.declared.Referent.TheVariants.{Missing, Found}
 use Rattle.blocks.proofs.Floors.{floor-multiple, floor-base}
 use Rattle.blocks.proofs.Sets.{pair, held_low, held_high, found-member, member-found, found-aligned}
 use Rattle.blocks.proofs.SetTables.{table-length, entry-missing, free-missing, referent-same, locked-same, table-undamaged}

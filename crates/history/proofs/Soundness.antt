@@ -8,10 +8,10 @@ use native.Mathlib.Nat.{add-suc, suc-add, add-mul, suc-mul}
 use native.Mathlib.Omega.{arith}
 use lib.Dec.{eqb}
 use lib.Pow.{pow_pos}
-use Rattle.blocks.specs.Blocks.{base, Block, holds}
+use Rattle.blocks.specs.Blocks.{base, holds, Missing}
+use Rattle.blocks.specs.declared.Block.{Block}
 use Rattle.blocks.specs.Sets.{Pair, ranges, PairSet, referent_of, pair_at, pairs_from, pairs_of}
 use Rattle.blocks.specs.Tables.{entry_order}
-use Rattle.blocks.specs.declared.Referent.TheVariants.{Missing}
 use Rattle.blocks.proofs.OneTable.{one_table}
 use Rattle.blocks.proofs.Reading.{read_out}
 use Rattle.blocks.proofs.Sets.{Ranged, range-out, none-missing}

@@ -7,11 +7,11 @@ use mathlib.Core.List.{List}
 use native.Mathlib.Omega.{arith}
 use borrow.Author.Tests.{ltb-false}
 use Rattle.common.specs.Refusals.{first}
-use Rattle.blocks.specs.Blocks.{Block, holds}
+use Rattle.blocks.specs.Blocks.{holds, Found}
+use Rattle.blocks.specs.declared.Block.{Block}
 use Rattle.blocks.specs.Sets.{ranges, referent_of}
 use Rattle.blocks.specs.Tables.{referent_in}
 use Rattle.blocks.specs.Pointers.{marked}
-use Rattle.blocks.specs.declared.Referent.TheVariants.{Found}
 use Rattle.common.proofs.Booleans.{or-false-right, eqb-suc}
 use Rattle.blocks.proofs.Sets.{found-member}
 use Rattle.blocks.proofs.Slots.{block}

@@ -10,11 +10,10 @@ use borrow.Author.Tests.{ltb-false}
 use Rattle.common.specs.Refusals.{first}
 use Rattle.common.specs.Bytes.{over, bytes_of, copied}
 use Rattle.common.proofs.Bytes.{over_none, length_over, length-bytes_of}
-use Rattle.blocks.specs.Blocks.{base, Block, holds, Aligned, missing, left_in}
+use Rattle.blocks.specs.Blocks.{base, holds, Aligned, missing, left_in, Referent, Missing, Found}
+use Rattle.blocks.specs.declared.Block.{Block}
 use Rattle.blocks.specs.Sets.{ranges, referent_of}
 use Rattle.blocks.specs.Pointers.{marked, sought}
-use Rattle.blocks.specs.declared.Referent.{Referent}
-use Rattle.blocks.specs.declared.Referent.TheVariants.{Missing, Found}
 use Rattle.common.proofs.Booleans.{or-false-left, or-false-right}
 use Rattle.blocks.proofs.Sets.{held_low, held_high, found-member, found-aligned}
 use Rattle.blocks.proofs.Slots.{block}

@@ -10,7 +10,8 @@ use lib.Seq.{ext_get_or}
 use borrow.Author.Tests.{ltb-true, ltb-false}
 use Rattle.common.specs.Bytes.{over}
 use Rattle.common.proofs.Bytes.{length_over, over-before, over-in, over-after}
-use Rattle.blocks.specs.Blocks.{base, Block, holds, Aligned}
+use Rattle.blocks.specs.Blocks.{base, holds, Aligned}
+use Rattle.blocks.specs.declared.Block.{Block}
 use Rattle.blocks.specs.Sets.{Pair, ranges, entry_at, table_of}
 use Rattle.blocks.specs.Tables.{lock_bit}
 use Rattle.blocks.proofs.Sets.{BlockSet}

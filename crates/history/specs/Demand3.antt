@@ -1,10 +1,10 @@
 -- Demand 3: the claim about a whole list of calls from a fresh heap of 2 ^ m bytes, as document 01, "What demand 3 compares", spells it out.
 use Rattle.std.specs.Prelude.{ℕ, ◌+◌, ◌-◌, ◌%◌, ◌^◌, ◌<◌, ◌≡◌, true, pos, length, get_or}
 use mathlib.Core.List.{List, ◌∷◌, ◌++◌, Memᴰ}
-use Rattle.blocks.specs.Blocks.{Block, holds}
+use Rattle.blocks.specs.Blocks.{holds, Found}
+use Rattle.blocks.specs.declared.Block.{Block}
 use Rattle.blocks.specs.Sets.{ranges, PairSet, table_of}
 use Rattle.blocks.specs.Pointers.{mark_bit, exact_sum, within, in_reach}
-use Rattle.blocks.specs.declared.Referent.TheVariants.{Found}
 use Rattle.heap.specs.Views.{slot_order}
 use Rattle.heap.specs.Effects.{accepted}
 use Rattle.heap.specs.Heaps.{Heap, heap_call, heap_fresh, fresh_heap, heap_check, bit}

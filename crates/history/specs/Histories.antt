@@ -2,7 +2,8 @@
 -- A slot has 2 ^ t bytes, the arena 2 ^ m.
 use Rattle.std.specs.Prelude.{ℕ, ◌^◌, ◌≤◌, ◌≡◌, Bool, true, false, cond, ◌&&◌, ◌||◌, eqb}
 use mathlib.Core.List.{List, [], ◌∷◌, Memᴰ}
-use Rattle.blocks.specs.Blocks.{Block, holds, Aligned}
+use Rattle.blocks.specs.Blocks.{holds, Aligned}
+use Rattle.blocks.specs.declared.Block.{Block}
 use Rattle.blocks.specs.Orders.{needed_order}
 use Rattle.heap.specs.Changes.{Change, adds, removes, relocks, keeps, change_of}
 use Rattle.heap.specs.declared.Answer.{Answer}

@@ -1,9 +1,9 @@
 -- Request 5 of document 02, "My hidden sound": the bytes of one live block make no difference to a list of calls that shows none of them and carries
 -- none of them out of the block (noninterference).
 use Rattle.std.specs.Prelude.{ℕ, ◌+◌, ◌≡◌, Bool, true, false, not, ◌&&◌, ◌||◌, List, [], ◌∷◌, eqb, length, get_or}
-use Rattle.blocks.specs.Blocks.{base, Block, holds}
+use Rattle.blocks.specs.Blocks.{base, holds, Found}
+use Rattle.blocks.specs.declared.Block.{Block}
 use Rattle.blocks.specs.Tables.{any, referent_in}
-use Rattle.blocks.specs.declared.Referent.TheVariants.{Found}
 use Rattle.heap.specs.Views.{slot_order}
 use Rattle.heap.specs.Heaps.{Heap, heap_call}
 use Rattle.heap.specs.declared.Answer.{Answer}

@@ -8,14 +8,12 @@ use takes::LONGEST;
 // One byte more than the longest file.
 const READ: usize = LONGEST + 1;
 
-fn print_pair<W: Write>(out: &mut W, a: u32, b: u32) -> io::Result<()> {
-    writeln!(out, "{a} {b}")
-}
-
 fn rewrite<W: Write>(out: &mut W, file: &[u8]) -> io::Result<()> {
     let mut lent = [165u8; LONGEST];
-    let written = takes::rewrite(file, &mut lent);
-    print_pair(out, written.number, written.count)?;
+    match takes::rewrite(file, &mut lent) {
+        Ok(count) => writeln!(out, "0 {count}")?,
+        Err(reason) => writeln!(out, "{} 0", u32::from(reason))?,
+    }
     out.write_all(&lent)
 }
 

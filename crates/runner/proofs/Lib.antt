@@ -1,4 +1,5 @@
 pub mod Files
+pub mod IssuedThere
 pub mod Records
 pub mod Steps
 pub mod Running

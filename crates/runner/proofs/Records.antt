@@ -1,5 +1,5 @@
 -- One record carried out: the registers that it takes from and puts to, what it does to a sound heap, and the record due after it. By the kinds of record.
-use Prim.Native.Nat.{ℕ, ◌+◌, ◌-◌, ◌≤◌}
+use Prim.Native.Nat.{ℕ, ◌+◌, ◌-◌, ◌≤◌, ◌<◌}
 use mathlib.Core.Path.{◌≡◌, refl, ◌∙◌, ap}
 use mathlib.Core.Bool.{Bool, true, false, cond}
 use mathlib.Core.List.{List}
@@ -7,7 +7,6 @@ use mathlib.Core.Option.{Option, none, some}
 use native.Mathlib.Omega.{arith}
 use lib.Dec.{eqb}
 use lib.ListN.{length, set, drop}
-use lib.Seq.{set_out}
 use borrow.Author.Tests.{leb-false}
 use Rattle.blocks.specs.Orders.{order_of}
 use Rattle.takes.specs.Operations.{kinds_of}
@@ -33,49 +32,69 @@ use Rattle.heap.specs.Registers.{register_count, put_where}
 use Rattle.history.proofs.Soundness.{SoundHeap, call-sound}
 use Rattle.runner.specs.Decoding.{decoded, action_of, registers_after, due_after}
 use Rattle.runner.specs.Machines.{acted, step_of}
-use Rattle.runner.specs.Inner.{machine_of, acted_in, no_register, index_of, LowRegisters, stored_in}
+use Rattle.runner.specs.Inner.{machine_of, acted_in, as_option, is_low, LowRegisters, stored_in}
+use Rattle.std.proofs.Common.{Some, None}
 use Rattle.runner.specs.declared.actions.Action.{Action}
 use Rattle.runner.specs.declared.actions.Action.TheVariants.{Makes, Gives, GoesBack}
 
--- a register that a record of the file takes from is one of the sixteen
+-- a register that a record of the file takes from, or that its value goes to, is one of the sixteen
 low-registers : (r : Record) → high_register (kinds_of (operation r)) (fields r) ≡ false → LowRegisters r
 unfolding kinds_of
-low-registers (get d n) h = (omega arith, omega arith)
-low-registers (give a) h = (low_field (kinds_of 2) (fields (give a)) 0 h refl, omega arith)
-low-registers (step d a i) h = (low_field (kinds_of 3) (fields (step d a i)) 1 h refl, omega arith)
-low-registers (read d a w) h = (low_field (kinds_of 4) (fields (read d a w)) 1 h refl, omega arith)
-low-registers (write a w v) h = (low_field (kinds_of 5) (fields (write a w v)) 0 h refl, omega arith)
-low-registers (left d a) h = (low_field (kinds_of 6) (fields (left d a)) 1 h refl, omega arith)
-low-registers (copy d a b n) h = (low_field (kinds_of 7) (fields (copy d a b n)) 1 h refl, low_field (kinds_of 7) (fields (copy d a b n)) 2 h refl)
-low-registers (fill d a v n) h = (low_field (kinds_of 8) (fields (fill d a v n)) 1 h refl, omega arith)
-low-registers (lock a) h = (low_field (kinds_of 9) (fields (lock a)) 0 h refl, omega arith)
-low-registers (unlock a) h = (low_field (kinds_of 10) (fields (unlock a)) 0 h refl, omega arith)
-low-registers (again d k) h = (low_field (kinds_of 11) (fields (again d k)) 0 h refl, omega arith)
-low-registers (assign d n) h = (omega arith, omega arith)
-low-registers (grid d a rows columns row column) h = (low_field (kinds_of 13) (fields (grid d a rows columns row column)) 1 h refl, omega arith)
+low-registers (get d n) h = (omega arith, omega arith, low_field (kinds_of 1) (fields (get d n)) 0 h refl)
+low-registers (give a) h = (low_field (kinds_of 2) (fields (give a)) 0 h refl, omega arith, tt)
+low-registers (step d a i) h = (low_field (kinds_of 3) (fields (step d a i)) 1 h refl, omega arith, low_field (kinds_of 3) (fields (step d a i)) 0 h refl)
+low-registers (read d a w) h = (low_field (kinds_of 4) (fields (read d a w)) 1 h refl, omega arith, low_field (kinds_of 4) (fields (read d a w)) 0 h refl)
+low-registers (write a w v) h = (low_field (kinds_of 5) (fields (write a w v)) 0 h refl, omega arith, tt)
+low-registers (left d a) h = (low_field (kinds_of 6) (fields (left d a)) 1 h refl, omega arith, low_field (kinds_of 6) (fields (left d a)) 0 h refl)
+low-registers (copy d a b n) h = (
+  low_field (kinds_of 7) (fields (copy d a b n)) 1 h refl,
+  low_field (kinds_of 7) (fields (copy d a b n)) 2 h refl,
+  low_field (kinds_of 7) (fields (copy d a b n)) 0 h refl,
+)
+low-registers (fill d a v n) h = (low_field (kinds_of 8) (fields (fill d a v n)) 1 h refl, omega arith, low_field (kinds_of 8) (fields (fill d a v n)) 0 h refl)
+low-registers (lock a) h = (low_field (kinds_of 9) (fields (lock a)) 0 h refl, omega arith, tt)
+low-registers (unlock a) h = (low_field (kinds_of 10) (fields (unlock a)) 0 h refl, omega arith, tt)
+low-registers (again d k) h = (low_field (kinds_of 11) (fields (again d k)) 0 h refl, omega arith, low_field (kinds_of 11) (fields (again d k)) 0 h refl)
+low-registers (assign d n) h = (omega arith, omega arith, low_field (kinds_of 12) (fields (assign d n)) 0 h refl)
+low-registers (grid d a rows columns row column) h = (
+  low_field (kinds_of 13) (fields (grid d a rows columns row column)) 1 h refl,
+  omega arith,
+  low_field (kinds_of 13) (fields (grid d a rows columns row column)) 0 h refl,
+)
 
--- a record that was judged and found good has such registers alone
+-- so it is of one that was judged and found good
 pub good-low : (file : List ℕ) (at : ℕ) → (read_at file at).number ≡ 0 → LowRegisters (record_there file at)
 good-low file at good =
     let n = found-next file at good (record_there file at) (read_at file at).next (good-record file at good (record_there file at) refl) refl in
     low-registers (record_there file at) (rw n.the-record (read_low (drop at file) n.whole))
 
--- a value put in no register
-put-none : (rs : List ℕ) (v : ℕ) → length rs ≡ register_count → set rs no_register v ≡ rs
-put-none rs v l = set_out rs no_register v (omega arith)
+-- the registers once a record's value is stored where the code stores it: in the register d, or nowhere
+module _ (r : Record) (x : Answer) (rs : List ℕ) where
+  pub stored-there : (d : ℕ) → Some d ≡ stored_in (as_option (decoded r).d) x → set rs d x.value ≡ registers_after r x rs
+  unfolding registers_after
+  stored-there d e = go (eqb x.number 0) (decoded r).d e
+    where
+      go : (b : Bool) (o : Option ℕ) → Some d ≡ cond b (as_option o) None → set rs d x.value ≡ cond b (put_where o x.value rs) rs
+      go true none e = cc
+      go true (some c) e = cc
+      go false o e = cc
 
-put-index : (o : Option ℕ) (v : ℕ) (rs : List ℕ) → length rs ≡ register_count → set rs (index_of o) v ≡ put_where o v rs
-put-index none v rs l = put-none rs v l
-put-index (some d) v rs l = refl
+  pub stored-nowhere : None ≡ stored_in (as_option (decoded r).d) x → rs ≡ registers_after r x rs
+  unfolding registers_after
+  stored-nowhere e = go (eqb x.number 0) (decoded r).d e
+    where
+      go : (b : Bool) (o : Option ℕ) → None ≡ cond b (as_option o) None → rs ≡ cond b (put_where o x.value rs) rs
+      go true none e = refl
+      go true (some c) e = cc
+      go false o e = refl
 
-pub stored-in : (r : Record) (x : Answer) (rs : List ℕ) → length rs ≡ register_count
-    → set rs (stored_in (index_of (decoded r).d) x) x.value ≡ registers_after r x rs
-unfolding registers_after
-stored-in r x rs l = go (eqb x.number 0)
-  where
-    go : (b : Bool) → set rs (cond b (index_of (decoded r).d) no_register) x.value ≡ cond b (put_where (decoded r).d x.value rs) rs
-    go true = put-index (decoded r).d x.value rs l
-    go false = put-none rs x.value l
+  pub stored-low : (d : ℕ) → is_low (decoded r).d → Some d ≡ stored_in (as_option (decoded r).d) x → d < register_count
+  stored-low d l e = go (eqb x.number 0) (decoded r).d l e
+    where
+      go : (b : Bool) (o : Option ℕ) → is_low o → Some d ≡ cond b (as_option o) None → d < register_count
+      go true none l e = absurd cc
+      go true (some c) l e = let same : d ≡ c = cc in omega arith
+      go false o l e = absurd cc
 
 -- a record that goes back goes to one before it; any other has the next after it
 pub due-next : (r : Record) (p q i : ℕ) → strays i r ≡ false → due_after ((decoded r).action p q) i ≤ i + 1

@@ -4,21 +4,26 @@ use mathlib.Core.Path.{◌≡◌, refl, sym, ◌∙◌, ap}
 use mathlib.Core.Bool.{Bool, true, false, cond, ◌&&◌}
 use mathlib.Core.List.{List}
 use native.Mathlib.Omega.{arith}
+use Rattle.std.proofs.Common.{Result, Ok, Err}
 use lib.Dec.{eqb, ltb}
 use lib.ListN.{length}
 use borrow.Author.Tests.{eqb-true, eqb-false, ne_eqb, lt-ltb, le-ltb, ltb-false}
 use Rattle.common.specs.Refusals.{first}
 use Rattle.common.proofs.Refusals.{clear-one, clear-number}
-use Rattle.takes.specs.Files.{size_byte, file_number, records_of, judgement}
-use Rattle.takes.specs.declared.Judgement.{Judgement}
+use Rattle.common.specs.Numbers.{number_of, number_in}
+use Rattle.common.specs.declared.reasons.Refusal.{Refusal as Reason}
+use Rattle.takes.specs.Files.{size_byte, file_number, records_of, Judgement, judgement_of, judgement}
+use Rattle.takes.specs.declared.Judged.{Judged as Found}
+use Rattle.common.proofs.Numbers.{some-number}
 use Rattle.heap.specs.Views.{slot_order}
 use Rattle.heap.specs.Heaps.{Heap, heap_of, wrong_sizes}
 use Rattle.heap.specs.Answers.{answer_length}
 use Rattle.heap.specs.Registers.{registers_at_first}
 use Rattle.runner.specs.Machines.{machine_at_first}
-use Rattle.runner.specs.TakeRuns.{most_steps, allowed, screenful, crowded, run_rules, RunOutcome, ran_to, ran_out, run_settled, run_by, run_of}
+use Rattle.runner.specs.TakeRuns.{most_steps, allowed, screenful, crowded, run_rules, RunOutcome, ran_of, ran_to, ran_out, run_settled, run_by, run_of}
 use Rattle.runner.specs.Inner.{Runnable}
 use Rattle.runner.specs.declared.Ran.{Ran}
+use Rattle.runner.specs.declared.RunReport.{RunReport}
 use Rattle.runner.proofs.Steps.{allowed-most, steps-within}
 
 -- the judgement of a file, b telling whether it is accepted
@@ -26,30 +31,30 @@ abbrev judged_as : List ℕ → Bool → Judgement
 judged_as file b =
     cond b (record { number = 0; size = size_byte file; count = length (records_of file) }) (record { number = file_number file; size = 0; count = 0 })
 
-pub judge-refused : (file : List ℕ) (j : Judgement) → j ≡ judgement file → (j.number ≡ 0 → ⊥) → file_number file ≡ j.number
-judge-refused file j e d = go (eqb (file_number file) 0) e
+pub judge-refused : (file : List ℕ) (reason : Reason) → judgement_of (Err reason) ≡ judgement file → file_number file ≡ number_of reason
+judge-refused file reason e = go (eqb (file_number file) 0) e
   where
-    go : (b : Bool) → j ≡ judged_as file b → file_number file ≡ j.number
-    go true e = absurd (d (ap (λ (j : Judgement). j.number) e))
+    go : (b : Bool) → judgement_of (Err reason) ≡ judged_as file b → file_number file ≡ number_of reason
+    go true e = absurd (some-number reason (ap (λ (j : Judgement). j.number) e))
     go false e = sym (ap (λ (j : Judgement). j.number) e)
 
 -- an accepted file, its size and its count
-pub record Judged (file : List ℕ) (j : Judgement) : Type 0 where
+pub record Judged (file : List ℕ) (j : Found) : Type 0 where
   pub judged : file_number file ≡ 0
   pub size : size_byte file ≡ j.size
   pub count : length (records_of file) ≡ j.count
 
-pub judge-accepted : (file : List ℕ) (j : Judgement) → j ≡ judgement file → j.number ≡ 0 → Judged file j
-judge-accepted file j e z = go (eqb (file_number file) 0) refl e
+pub judge-accepted : (file : List ℕ) (j : Found) → judgement_of (Ok j) ≡ judgement file → Judged file j
+judge-accepted file j e = go (eqb (file_number file) 0) refl e
   where
-    go : (b : Bool) → eqb (file_number file) 0 ≡ b → j ≡ judged_as file b → Judged file j
+    go : (b : Bool) → eqb (file_number file) 0 ≡ b → judgement_of (Ok j) ≡ judged_as file b → Judged file j
     go true q e =
         record {
           judged = eqb-true (file_number file) 0 q;
           size = sym (ap (λ (j : Judgement). j.size) e);
           count = sym (ap (λ (j : Judgement). j.count) e);
         }
-    go false q e = absurd (eqb-false (file_number file) 0 q (sym (ap (λ (j : Judgement). j.number) e) ∙ z))
+    go false q e = absurd (eqb-false (file_number file) 0 q (sym (ap (λ (j : Judgement). j.number) e)))
 
 -- the panel's own rule, by the two tests that the code makes of it, n being the count of the records
 module _ (panel : Bool) (file : List ℕ) where
@@ -75,16 +80,16 @@ module _ (panel : Bool) (file : List ℕ) (b : ℕ) (a tab out : List ℕ) where
   -- what is returned with the number k, nothing changed, is the run's outcome
   abbrev RefusedBy : ℕ → Type 0
   RefusedBy k =
-      (r : Ran) → r ≡ record { number = k; registers = record { values = registers_at_first }; count = 0; stopped = false }
-      → ran_to r a tab out ≡ run_by panel file b (heap_of a tab) out
+      ran_to (record { number = k; registers = record { values = registers_at_first }; count = 0; stopped = false }) a tab out
+      ≡ run_by panel file b (heap_of a tab) out
 
   refused-by : (k : ℕ) → (k ≡ 0 → ⊥) → number ≡ k → RefusedBy k
   unfolding run_by
-  refused-by zero d z r e = absurd (d refl)
-  refused-by (suc k) d z r e = rw (e, z)
+  refused-by zero d z = absurd (d refl)
+  refused-by (suc k) d z = rw z
 
-  pub by-file : (k : ℕ) → (k ≡ 0 → ⊥) → file_number file ≡ k → RefusedBy k
-  by-file k d e = refused-by k d (rw (ne_eqb (file_number file) 0 (λ z. d (sym e ∙ z)), e))
+  pub by-file : (reason : Reason) → file_number file ≡ number_of reason → RefusedBy (number_of reason)
+  by-file reason e = refused-by (number_of reason) (some-number reason) (rw (ne_eqb (file_number file) 0 (λ z. some-number reason (sym e ∙ z)), e))
 
   pub by-screen : file_number file ≡ 0 → (panel && crowded file) ≡ true → RefusedBy 26
   by-screen z s = refused-by 26 (λ z. omega arith) (rw (z, s))
@@ -107,6 +112,11 @@ module _ (panel : Bool) (file : List ℕ) (b : ℕ) (a tab out : List ℕ) where
       → ran_to r a' tab' out' ≡ ran_out file most out → ran_to r a' tab' out' ≡ run_by panel file b (heap_of a tab) out
   unfolding run_by
   run-done m most q g s r a' tab' out' e = rw (by-none g.judged s (rw g.same g.fits) (rw (← q) g.room), ← q) e
+
+-- the number that the code's answer has
+pub number-same : (r : Result RunReport Reason) → (ran_of r).number ≡ number_in r
+number-same (Ok report) = refl
+number-same (Err reason) = refl
 
 pub settled-number : (k : ℕ) (file : List ℕ) (b : ℕ) (h : Heap) (out : List ℕ) → (run_settled k file b h out).number ≡ k
 settled-number zero file b h out = refl

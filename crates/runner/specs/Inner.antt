@@ -1,6 +1,6 @@
 -- What the parts of a run's code say to each other: where a record stands, what a run gives from a machine on, and a record with its registers' values.
 -- Document 01 has none of it: `run` and `run_panel` promise `run_of` and `panel_of`.
-use Rattle.std.specs.Prelude.{ℕ, ◌+◌, ◌-◌, ◌*◌, ◌/◌, ◌≤◌, ◌<◌, ◌≡◌, false, cond, List, eqb, length}
+use Rattle.std.specs.Prelude.{ℕ, ◌+◌, ◌-◌, ◌*◌, ◌/◌, ◌≤◌, ◌<◌, ◌≡◌, false, cond, List, eqb, length, ⊤, Option as Maybe, Some, None}
 use Rattle.std.proofs.Math.Option.{Option, none, some}
 use Rattle.common.specs.Bytes.{over}
 use Rattle.takes.specs.Files.{head_length, longest, size_byte, file_number}
@@ -56,22 +56,24 @@ acted_in m (Makes c) h = heap_step slot_order m c h
 acted_in m (Gives v) h = record { answer = accepted v; state = h }
 acted_in m (GoesBack v k) h = record { answer = accepted v; state = h }
 
--- the index that stands for no register: the first past them
-abbrev pub no_register : ℕ
-no_register = register_count
+-- a register, as the code says it
+abbrev pub as_option : Option ℕ → Maybe ℕ
+as_option none = None
+as_option (some d) = Some d
 
-abbrev pub index_of : Option ℕ → ℕ
-index_of none = no_register
-index_of (some d) = d
+-- a register, if there is one, is among the sixteen
+abbrev pub is_low : Option ℕ → Type 0
+is_low none = ⊤
+is_low (some d) = d < register_count
 
--- the registers that a record takes from are among the sixteen
+-- the registers that a record takes from, and the one that its value goes to, are among the sixteen
 abbrev pub LowRegisters : Record → Type 0
-LowRegisters r = ((decoded r).a < register_count) × ((decoded r).b < register_count)
+LowRegisters r = ((decoded r).a < register_count) × ((decoded r).b < register_count) × is_low (decoded r).d
 
--- a record with the values that its registers have, and the index of the register that its value goes to
-abbrev pub issued_with : List ℕ → Record → Issued
-issued_with rs r = record { action = action_of rs r; d = index_of (decoded r).d }
+-- a record with the values that its registers have, and the register that its value goes to
+unfoldable pub issued_with : List ℕ → Record → Issued
+issued_with rs r = record { action = action_of rs r; d = as_option (decoded r).d }
 
 -- the register that its value goes to: none where it was refused
-abbrev pub stored_in : ℕ → Answer → ℕ
-stored_in d x = cond (eqb x.number 0) d no_register
+abbrev pub stored_in : Maybe ℕ → Answer → Maybe ℕ
+stored_in d x = cond (eqb x.number 0) d None

@@ -1,7 +1,9 @@
 -- Document 01, "A take", and document 02, "Panel takes" and "Repeats in a take": a run of a file, uploaded or from the front panel, on a lent arena, table and
 -- answer slice, with a budget of steps.
-use Rattle.std.specs.Prelude.{ℕ, zero, suc, ◌*◌, min, Bool, true, false, not, ◌&&◌, List, [], ◌∷◌, eqb, ltb, length}
+use Rattle.std.specs.Prelude.{ℕ, zero, suc, ◌*◌, min, Bool, true, false, not, ◌&&◌, List, [], ◌∷◌, eqb, ltb, length, Result, Ok, Err}
 use Rattle.common.specs.Refusals.{Refusal, ◌when◌, first}
+use Rattle.common.specs.Numbers.{number_of}
+use Rattle.common.specs.declared.reasons.Refusal.{Refusal as Reason}
 use Rattle.common.specs.Bytes.{over}
 use Rattle.takes.specs.Files.{size_byte, file_number, records_of}
 use Rattle.heap.specs.Views.{slot_order}
@@ -9,6 +11,7 @@ use Rattle.heap.specs.Heaps.{Heap, heap_of, wrong_sizes}
 use Rattle.heap.specs.Answers.{answer_length, answers_bytes}
 use Rattle.heap.specs.Registers.{registers_at_first}
 use Rattle.runner.specs.Machines.{machine_at_first, is_due, carry_out}
+use Rattle.runner.specs.declared.RunReport.{RunReport}
 use Rattle.runner.specs.declared.Ran.{Ran}
 
 -- the steps that a budget allows
@@ -44,6 +47,11 @@ pub record RunOutcome : Type 0 where
   pub stopped : Bool
   pub heap : Heap
   pub answers : List ℕ
+
+-- what the code of a run returns, refused or not: refused, sixteen zero registers and count 0
+abbrev pub ran_of : Result RunReport Reason → Ran
+ran_of (Ok r) = record { number = 0; registers = r.registers; count = r.count; stopped = r.stopped }
+ran_of (Err reason) = record { number = number_of reason; registers = record { values = registers_at_first }; count = 0; stopped = false }
 
 -- what a run returned and the buffers that it left, as its outcome
 abbrev pub ran_to : Ran → List ℕ → List ℕ → List ℕ → RunOutcome

@@ -12,7 +12,7 @@ use Rattle.takes.specs.JudgedBefore.{added, walk_before, records_before, number_
 use Rattle.takes.specs.Writing.{record_bytes, records_bytes, file_of}
 use Rattle.takes.specs.declared.Record.{Record}
 use Rattle.takes.specs.declared.Record.TheVariants.{Get, Give, Step, Read, Grid}
-use Rattle.takes.specs.declared.Judgement.{Judgement}
+use Rattle.takes.specs.Files.{Judgement}
 
 -- a file's judgement and its records; the numbers of several files; the readings at several places of one
 judged : List ℕ → Judgement × List Record

@@ -1,18 +1,22 @@
--- The operation table: what holds of each row holds of every operation, the code's table is computed from the rows, and what a row says.
-use Prim.Native.Nat.{ℕ, zero, suc, ◌+◌, ◌-◌, ◌*◌, ◌/◌, ◌%◌, ◌≤◌, ◌<◌}
+-- The operation table: what holds of each row holds of every operation, and each operation of the code is in it.
+use Prim.Native.Nat.{ℕ, zero, suc, ◌+◌, ◌≤◌, ◌<◌}
 use mathlib.Core.Path.{◌≡◌, refl, sym, ◌∙◌, ap, subst}
 use mathlib.Core.Bool.{Bool, true, false, ◌||◌, ◌&&◌, cond, false≢true}
-use mathlib.Core.List.{List, [], ◌∷◌}
+use mathlib.Core.List.{List, [], ◌∷◌, map}
 use native.Mathlib.Omega.{arith}
 use native.Mathlib.Nat.{le_of_suc-le-suc, not-suc-le-zero}
 use lib.Dec.{eqb, leb, ltb}
-use lib.ListN.{length, get_or}
-use borrow.Author.Tests.{eqb-true, ltb-true, ltb-false, leb-true, le-leb, lt-leb}
-use Rattle.common.proofs.Arms.{NoneOf, above-all}
+use lib.ListN.{length, get_or, get_or-map}
+use borrow.Author.Tests.{eqb-true, ltb-true, leb-true, leb-false, le-leb, lt-leb}
 use Rattle.common.proofs.Booleans.{and_left, and_right}
-use Rattle.heap.specs.OperationNumbers.{last_operation}
-use Rattle.takes.specs.Operations.{Row, ◌has◌, operations, known_in, known, kinds_of, sizes, length_of}
-use Rattle.takes.specs.Inner.{table_rows, most_fields, digits, row_of}
+use Rattle.std.proofs.Common.{rules, Result, Ok, Err}
+use Rattle.std.specs.Result.{IsOk}
+use Rattle.common.specs.declared.reasons.Refusal.{Refusal as Reason}
+use Rattle.heap.specs.OperationNumbers.{last_operation, is_operation, number_of, decodes}
+use Rattle.heap.specs.declared.operations.Operation.{Operation}
+use Rattle.heap.specs.declared.operations.Operation.TheVariants.{Get, Give, Step, Read, Write, Left, Copy, Fill, Lock, Unlock, Again, Set, Grid}
+use Rattle.takes.specs.Operations.{Row, ◌has◌, operations, known_in, known, kinds_of}
+use Rattle.takes.specs.Inner.{most_fields}
 
 abbrev pub AllRows : (ℕ → Type 0) → List Row → Type 0
 AllRows P [] = Unit {0}
@@ -31,15 +35,14 @@ pub every-operation : (P : ℕ → Type 0) → AllRows P operations → (op : �
 unfolding known
 every-operation P a op h = in_rows P operations a op h
 
--- the table's bounds: an operation's row and fields, and its length byte
+-- the table's bounds: an operation's number and its fields
 pub record InTable (op : ℕ) : Type 0 where
   pub above : 0 < op
-  pub below : op < table_rows
+  pub below : op ≤ last_operation
   pub few : length (kinds_of op) ≤ most_fields
-  pub short : sizes (kinds_of op) < 255
 
 abbrev within : ℕ → Bool
-within op = ltb 0 op && (ltb op table_rows && (leb (length (kinds_of op)) most_fields && ltb (sizes (kinds_of op)) 255))
+within op = ltb 0 op && (leb op last_operation && leb (length (kinds_of op)) most_fields)
 
 pub in_table : (op : ℕ) → known op ≡ true → InTable op
 unfolding kinds_of
@@ -47,52 +50,27 @@ in_table op h =
     let each : AllRows (λ op. within op ≡ true) operations =
     (refl, (refl, (refl, (refl, (refl, (refl, (refl, (refl, (refl, (refl, (refl, (refl, (refl, tt))))))))))))) in
     let a : within op ≡ true = every-operation (λ op. within op ≡ true) each op h in
-    let b = and_right (ltb 0 op) (ltb op table_rows && (leb (length (kinds_of op)) most_fields && ltb (sizes (kinds_of op)) 255)) a in
-    let d = and_right (ltb op table_rows) (leb (length (kinds_of op)) most_fields && ltb (sizes (kinds_of op)) 255) b in
+    let b = and_right (ltb 0 op) (leb op last_operation && leb (length (kinds_of op)) most_fields) a in
     record {
       above = ltb-true 0 op (and_left (ltb 0 op) _ a);
-      below = ltb-true op table_rows (and_left (ltb op table_rows) _ b);
-      few = leb-true (length (kinds_of op)) most_fields (and_left (leb (length (kinds_of op)) most_fields) _ d);
-      short = ltb-true (sizes (kinds_of op)) 255 (and_right (leb (length (kinds_of op)) most_fields) _ d);
+      below = leb-true op last_operation (and_left (leb op last_operation) _ b);
+      few = leb-true (length (kinds_of op)) most_fields (and_right (leb op last_operation) _ b);
     }
 
--- the last arm of a match on the operations: of those in the table it is left with the last
-pub last_arm : (op : ℕ) → known op ≡ true → NoneOf op (last_operation - 1) → op ≡ last_operation
-last_arm op h o = let t = in_table op h in omega (arith, above-all op (last_operation - 1) o t.above, t.below)
-
 -- the values of g at the first n numbers
-abbrev tabulated : (ℕ → ℕ) → ℕ → List ℕ
+abbrev pub tabulated : {X : Type 0} → (ℕ → X) → ℕ → List X
 tabulated g zero = []
 tabulated g (suc n) = g 0 ∷ tabulated (λ k. g (suc k)) n
 
-tabulated-at : (g : ℕ → ℕ) (n k : ℕ) → k < n → get_or (tabulated g n) k 0 ≡ g k
-tabulated-at g zero k h = absurd (not-suc-le-zero h)
-tabulated-at g (suc n) zero h = refl
-tabulated-at g (suc n) (suc k) h = tabulated-at (λ k. g (suc k)) n k (le_of_suc-le-suc h)
-
--- the code's table, which computes to the rows of the numbers below `table_rows`
-abbrev pub table : List ℕ
-table = 0 ∷ 0x49_06 ∷ 0x9_02 ∷ 0x499_07 ∷ 0x199_04 ∷ 0x419_07 ∷ 0x99_03 ∷ 0x4999_08 ∷ 0x4199_08 ∷ 0x9_02 ∷ 0x9_02 ∷ 0x29_04 ∷ 0x49_06 ∷ 0x111199_07 ∷ []
-
-pub rows_right : (op : ℕ) → op < table_rows → get_or table op 0 ≡ row_of op
-unfolding row_of known kinds_of
-rows_right op h = tabulated-at row_of table_rows op h
-
-pub rows-past : (op : ℕ) → table_rows ≤ op → 0 ≡ row_of op
-unfolding row_of
-rows-past op h = go (known op) refl
-  where
-    go : (b : Bool) → known op ≡ b → 0 ≡ cond b (length_of op + 256 * digits (kinds_of op)) 0
-    go true e = absurd (omega (arith, in_table op e))
-    go false e = refl
+tabulated-at : {X : Type 0} (g : ℕ → X) (d : X) (n k : ℕ) → k < n → get_or (tabulated g n) k d ≡ g k
+tabulated-at g d zero k h = absurd (not-suc-le-zero h)
+tabulated-at g d (suc n) zero h = refl
+tabulated-at g d (suc n) (suc k) h = tabulated-at (λ k. g (suc k)) d n k (le_of_suc-le-suc h)
 
 -- the operations of the table are the numbers up to its last
-abbrev pub listed : ℕ → Bool
-listed op = leb 1 op && leb op last_operation
-
-pub known-numbers : (op : ℕ) → known op ≡ listed op
+pub known-numbers : (op : ℕ) → known op ≡ is_operation op
 unfolding known
-known-numbers op = go (ltb op table_rows) refl
+known-numbers op = go (leb op last_operation) refl
   where
     bit : Bool → ℕ
     bit b = cond b 1 0
@@ -103,41 +81,47 @@ known-numbers op = go (ltb op table_rows) refl
     same false true e = absurd (omega arith)
     same false false e = refl
 
-    past : table_rows ≤ op → (b : Bool) → known op ≡ b → b ≡ listed op
+    past : last_operation < op → (b : Bool) → known op ≡ b → b ≡ is_operation op
     past h true e = absurd (omega (arith, (in_table op e).below))
-    past h false e = rw (le-leb 1 op (omega arith), lt-leb op last_operation (omega arith))
+    past h false e = rw (le-leb 1 op (omega arith), lt-leb op last_operation h)
 
-    go : (b : Bool) → ltb op table_rows ≡ b → known op ≡ listed op
+    go : (b : Bool) → leb op last_operation ≡ b → known op ≡ is_operation op
     go true e =
-        let l = ltb-true op table_rows e in
-        same (known op) (listed op) (sym (tabulated-at (λ k. bit (known k)) table_rows op l) ∙ tabulated-at (λ k. bit (listed k)) table_rows op l)
-    go false e = past (ltb-false op table_rows e) (known op) refl
+        let l : op < suc last_operation = omega (arith, leb-true op last_operation e) in
+        same (known op) (is_operation op)
+        (sym (tabulated-at (λ k. bit (known k)) 0 (suc last_operation) op l) ∙ tabulated-at (λ k. bit (is_operation k)) 0 (suc last_operation) op l)
+    go false e = past (leb-false op last_operation e) (known op) refl
 
--- What a row says: it is 0 where the table has no such operation, else the length byte and the kinds.
-module _ (op row : ℕ) (is : row ≡ row_of op) where
-  pub row-none : row ≡ 0 → known op ≡ false
-  unfolding row_of
-  row-none z = go (known op) (sym is ∙ z)
-    where
-      go : (b : Bool) → cond b (length_of op + 256 * digits (kinds_of op)) 0 ≡ 0 → b ≡ false
-      go true e = absurd (omega arith)
-      go false e = refl
+-- each operation of the code is in the table
+pub known-operation : (o : Operation) → known (number_of o) ≡ true
+unfolding known
+known-operation Get = refl
+known-operation Give = refl
+known-operation Step = refl
+known-operation Read = refl
+known-operation Write = refl
+known-operation Left = refl
+known-operation Copy = refl
+known-operation Fill = refl
+known-operation Lock = refl
+known-operation Unlock = refl
+known-operation Again = refl
+known-operation Set = refl
+known-operation Grid = refl
 
-  pub row-known : (row ≡ 0 → ⊥) → known op ≡ true
-  unfolding row_of
-  row-known z = go (known op) is
-    where
-      go : (b : Bool) → row ≡ cond b (length_of op + 256 * digits (kinds_of op)) 0 → b ≡ true
-      go true e = refl
-      go false e = absurd (z e)
+-- What the code's table says of an operation is what is meant of it, where all its rows say what is meant of 1, 2 and so on.
+pub row-says : {A X : Type 0} (say : A → X) (meant : ℕ → X) (rows : List A) (d : A) (k : ℕ) (o : Operation) → k + 1 ≡ number_of o
+    → map say rows ≡ tabulated (λ k. meant (suc k)) last_operation → say (get_or rows k d) ≡ meant (number_of o)
+row-says say meant rows d k o place e =
+    let l : k < last_operation = omega (arith, (in_table (number_of o) (known-operation o)).below) in
+    let n : suc k ≡ number_of o = omega (arith, place) in
+    sym (get_or-map say rows k d)
+    ∙ (ap (λ (xs : List _). get_or xs k (say d)) e ∙ (tabulated-at (λ k. meant (suc k)) (say d) last_operation k l ∙ ap meant n))
 
-  module _ (listed : known op ≡ true) where
-    row_is : row ≡ length_of op + 256 * digits (kinds_of op)
-    unfolding row_of
-    row_is = rw listed at is
+-- What is made of an operation's number is the operation.
+pub decoded : (op : ℕ) (r : Result Operation Reason) → decodes op r → known op ≡ true → IsOk r
+decoded op (Ok o) d h = search rules
+decoded op (Err reason) d h = absurd (false≢true (sym d.1 ∙ (sym (known-numbers op) ∙ h)))
 
-    pub row-length : row % 256 ≡ length_of op
-    row-length = omega (arith, row_is, (in_table op listed).short)
-
-    pub row-kinds : row / 256 ≡ digits (kinds_of op)
-    row-kinds = omega (arith, row_is, (in_table op listed).short)
+pub number-decoded : (op : ℕ) (r : Result Operation Reason) (o : Operation) → decodes op r → r ≡ Ok o → number_of o ≡ op
+number-decoded op r o d e = subst (decodes op) e d

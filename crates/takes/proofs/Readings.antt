@@ -1,5 +1,5 @@
 -- The reader's rules: what an accepted record is, and the answer at each of the code's returns.
-use Prim.Native.Nat.{ℕ, suc, ◌+◌, ◌-◌, ◌/◌, ◌%◌, ◌≤◌, ◌<◌}
+use Prim.Native.Nat.{ℕ, suc, ◌+◌, ◌-◌, ◌≤◌, ◌<◌}
 use mathlib.Core.Path.{◌≡◌, refl, sym, ◌∙◌, ap}
 use mathlib.Core.Bool.{Bool, true, false, ◌||◌}
 use mathlib.Core.Logic.{◌⊎◌, inl, inr}
@@ -11,13 +11,15 @@ use lib.Dec.{eqb, ltb}
 use lib.ListN.{length, get_or, drop, length-drop, drop_of_length-le}
 use lib.Seq.{get_or-drop, drop-drop}
 use borrow.Author.Tests.{lt-ltb, le-ltb, ltb-false, eq-eqb, ne_eqb, eqb-true, eqb-false}
+use Rattle.heap.specs.OperationNumbers.{is_operation, number_of}
+use Rattle.heap.specs.declared.operations.Operation.{Operation}
 use Rattle.takes.specs.Operations.{known, kinds_of, sizes, length_of}
 use Rattle.takes.specs.Records.{record_of}
-use Rattle.takes.specs.Reading.{length_byte, operation_byte, field_values, high_register}
+use Rattle.takes.specs.Reading.{values, length_byte, operation_byte, field_values, high_register}
 use Rattle.takes.specs.Reading.{Given, record_found, record_refused, read_rules, read_bytes, read_at}
-use Rattle.takes.specs.Inner.{digits, row_of, record_there}
+use Rattle.takes.specs.Inner.{record_there}
 use Rattle.takes.specs.declared.Record.{Record}
-use Rattle.takes.proofs.Operations.{row-none, row-known, row-length, row-kinds}
+use Rattle.takes.proofs.Operations.{known-numbers, known-operation, decoded, number-decoded}
 use Rattle.common.proofs.Booleans.{or-false-left, or-false-right}
 
 -- some bytes start with a record that passes 4 to 7
@@ -114,56 +116,51 @@ module _ (s : List ℕ) (at : ℕ) where
   pub zero-length : get_or s at 0 ≡ 0 → record_refused 4 ≡ read_at s at
   zero-length h = sym (read-4 (drop at s) at (rw (length_at, h)))
 
-  pub too_few : (n : ℕ) → (get_or s at 0 ≡ 0 → ⊥) → n ≡ get_or s at 0 → length s - (at + 1) < n → record_refused 4 ≡ read_at s at
-  too_few n nonzero e h =
+  pub too_few : (get_or s at 0 ≡ 0 → ⊥) → length s - (at + 1) < get_or s at 0 → record_refused 4 ≡ read_at s at
+  too_few nonzero h =
       let l : length (drop at s) - 1 < get_or s at 0 = omega (arith, length-drop at s) in
       sym (read-4 (drop at s) at (rw (length_at, ne_eqb (get_or s at 0) 0 nonzero, lt-ltb (length (drop at s) - 1) (get_or s at 0) l)))
 
--- Past 4: the record's n bytes are there, and `row` is the row of its operation.
-pub record Counted (s : List ℕ) (at n row : ℕ) : Type 0 where
+-- Past 4: the record's bytes are there.
+pub record Counted (s : List ℕ) (at : ℕ) : Type 0 where
   pub nonzero : get_or s at 0 ≡ 0 → ⊥
-  pub length-is : n ≡ get_or s at 0
-  pub enough : n ≤ length s - (at + 1)
-  pub row_is : row ≡ row_of (get_or s (at + 1) 0)
+  pub enough : get_or s at 0 ≤ length s - (at + 1)
 
-module _ {s : List ℕ} {at n row : ℕ} (k : Counted s at n row) where
-  abbrev op : ℕ
-  op = operation_byte (drop at s)
-
-  row_here : row ≡ row_of op
-  row_here = rw operation-at k.row_is
-
+module _ {s : List ℕ} {at : ℕ} (k : Counted s at) where
   fine : short (drop at s) at ≡ false
-  fine = not_short (drop at s) at (rw length_at k.nonzero) (rw length_at (omega (arith, length-drop at s, k.enough, k.length-is)))
+  fine = not_short (drop at s) at (rw length_at k.nonzero) (rw length_at (omega (arith, length-drop at s, k.enough)))
 
-  pub unlisted : row ≡ 0 → record_refused 5 ≡ read_at s at
-  unlisted h = sym (read-5 (drop at s) at fine (row-none op row row_here h))
+  pub unlisted : is_operation (get_or s (at + 1) 0) ≡ false → record_refused 5 ≡ read_at s at
+  unlisted h = sym (read-5 (drop at s) at fine (rw (operation-at s at, known-numbers (get_or s (at + 1) 0)) h))
 
-  module _ (listed : row ≡ 0 → ⊥) where
-    pub known_at : known op ≡ true
-    known_at = row-known op row row_here listed
+  -- past 5: the operation is o
+  module _ (o : Operation) (here : number_of o ≡ get_or s (at + 1) 0) where
+    operation_is : operation_byte (drop at s) ≡ number_of o
+    operation_is = operation-at s at ∙ sym here
 
-    right-at : row % 256 ≡ length_of op
-    right-at = row-length op row row_here known_at
+    known_at : known (operation_byte (drop at s)) ≡ true
+    known_at = rw operation_is (known-operation o)
 
-    pub kinds-at : row / 256 ≡ digits (kinds_of op)
-    kinds-at = row-kinds op row row_here known_at
+    pub wrong-length : (get_or s at 0 ≡ length_of (number_of o) → ⊥) → record_refused 6 ≡ read_at s at
+    wrong-length h = sym (read-6 (drop at s) at fine known_at (rw (length_at, operation_is) (ne_eqb (get_or s at 0) (length_of (number_of o)) h)))
 
-    pub wrong-length : (get_or s at 0 ≡ row % 256 → ⊥) → record_refused 6 ≡ read_at s at
-    wrong-length h = sym (read-6 (drop at s) at fine known_at (rw (length_at, ← right-at) (ne_eqb (get_or s at 0) (row % 256) h)))
+    -- past 6: its fields are there
+    module _ (same : get_or s at 0 ≡ length_of (number_of o)) where
+      pub fields_fit : at + 2 + sizes (kinds_of (number_of o)) ≤ length s
+      fields_fit = omega (arith, k.enough, k.nonzero)
 
-    module _ (same : get_or s at 0 ≡ row % 256) where
-      pub fields_fit : at + 2 + sizes (kinds_of op) ≤ length s
-      fields_fit = omega (arith, right-at, k.enough, k.length-is)
+      exact-at : eqb (length_byte (drop at s)) (length_of (operation_byte (drop at s))) ≡ true
+      exact-at = rw operation_is (eq-eqb (length_byte (drop at s)) (length_of (number_of o)) (length_at s at ∙ same))
 
-      exact-at : eqb (length_byte (drop at s)) (length_of op) ≡ true
-      exact-at = eq-eqb (length_byte (drop at s)) (length_of op) (length_at s at ∙ (same ∙ right-at))
+      high_is : high_register (kinds_of (number_of o)) (values (kinds_of (number_of o)) (drop (at + 2) s))
+          ≡ high_register (kinds_of (operation_byte (drop at s))) (field_values (drop at s))
+      high_is = rw (operation_is, drop-drop 2 at s)
 
-      pub high-at : true ≡ high_register (kinds_of op) (field_values (drop at s)) → record_refused 7 ≡ read_at s at
-      high-at h = sym (read-7 (drop at s) at fine known_at exact-at (sym h))
+      pub high-at : true ≡ high_register (kinds_of (number_of o)) (values (kinds_of (number_of o)) (drop (at + 2) s)) → record_refused 7 ≡ read_at s at
+      high-at h = sym (read-7 (drop at s) at fine known_at exact-at (sym (h ∙ high_is)))
 
-      pub good-at : false ≡ high_register (kinds_of op) (field_values (drop at s)) → 0 ≡ (read_at s at).number
-      good-at h = sym (ap (λ (g : Given). g.number) (read-0 (drop at s) at fine known_at exact-at (sym h)))
+      pub good-at : false ≡ high_register (kinds_of (number_of o)) (values (kinds_of (number_of o)) (drop (at + 2) s)) → 0 ≡ (read_at s at).number
+      good-at h = sym (ap (λ (g : Given). g.number) (read-0 (drop at s) at fine known_at exact-at (sym (h ∙ high_is))))
 
 -- A reading by its number: a refused one has a number alone, and a good one has a whole record.
 pub the_number : {n : ℕ} {g : Given} → record_refused n ≡ g → n ≡ g.number
@@ -188,9 +185,6 @@ module _ (s : List ℕ) (at : ℕ) where
     good-reading : read_at s at ≡ record_found (the_record (drop at s)) (at + 1 + length_byte (drop at s))
     good-reading = read_whole (drop at s) at good-whole
 
-    pub good-found : (r : Record) (next : ℕ) → some r ≡ (read_at s at).found → next ≡ (read_at s at).next → record_found r next ≡ read_at s at
-    good-found r next p q = rw (p, q, good-reading)
-
     -- what the inner reader takes from the file
     pub good-known : known (get_or s (at + 1) 0) ≡ true
     good-known = rw operation-at at good-whole.listed
@@ -206,3 +200,6 @@ module _ (s : List ℕ) (at : ℕ) where
 
     pub good-next : (n : ℕ) → n ≡ get_or s at 0 → at + 1 + n ≡ (read_at s at).next
     good-next n e = rw (e, good-reading, length_at)
+
+-- what a good record gives
+pub ruleset of_good = (good-known, good-fits, good-inside, good-next, good-record, decoded, number-decoded)

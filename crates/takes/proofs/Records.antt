@@ -95,6 +95,9 @@ module _ (s : List ℕ) (at : ℕ) where
         byte-from 5 (kinds_of 13) refl refl,
       )
 
+-- the record of an operation's fields, for each operation
+pub ruleset records_there = (get-is, give-is, step_is, read_is, write-is, left_is, copy_is, fill_is, lock-is, unlock-is, again-is, set_is, grid-is)
+
 pub record Sound (r : Record) : Type 0 where
   pub in_table : known (operation r) ≡ true
   pub bytes : length (value_bytes (kinds_of (operation r)) (fields r)) ≡ sizes (kinds_of (operation r))
@@ -120,12 +123,6 @@ sound (Grid d a rows columns row column) = record { in_table = refl; bytes = ref
 
 -- The writer's returns, op and vs being the record taken apart.
 module _ (r : Record) (out : List ℕ) (op : ℕ) (vs : List ℕ) (taken : (op ≡ operation r) × (vs ≡ padded (fields r))) where
-  pub values-known : known op ≡ true
-  values-known = rw taken.0 (sound r).in_table
-
-  pub values-count : length vs ≡ most_fields
-  values-count = rw taken.1 (sound r).field-count
-
   high_is : high_register (kinds_of op) vs ≡ high_register (kinds_of (operation r)) (fields r)
   high_is = rw (taken.0, taken.1) (sound r).padded-high
 

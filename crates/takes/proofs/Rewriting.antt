@@ -6,18 +6,22 @@ use mathlib.Core.List.{List, [], ◌∷◌, ◌++◌, append_assoc, append-nil}
 use native.Mathlib.Omega.{arith}
 use native.Mathlib.Nat.{add_assoc}
 use lib.Dec.{eqb}
-use lib.ListN.{length, take, drop, length-append, length-drop, drop_of_length-le}
+use lib.ListN.{length, take, drop, set, length-append, length-drop, drop_of_length-le}
 use lib.Seq.{drop-drop, take-add, take_at, drop_at, take_all, length-take-le}
 use borrow.Author.Tests.{lt-ltb, le-ltb, ne_eqb, eqb-true}
+use Rattle.std.specs.Prelude.{Result, Ok, Err, IsOk}
+use Rattle.std.proofs.Common.{rules}
+use Rattle.common.specs.declared.reasons.Refusal.{Refusal as Reason}
+use Rattle.common.proofs.Numbers.{some-number}
 use Rattle.takes.specs.Reading.{length_byte}
 use Rattle.takes.specs.Files.{head_length, size_byte, walk_from, Walk, file_number, judgement}
 use Rattle.takes.specs.Writing.{WriteOutcome, write_outcome, record_bytes, write_head, write_record, rewrite_file}
 use Rattle.takes.specs.RoundTrips.{Bytes}
 use Rattle.takes.specs.declared.Record.{Record}
-use Rattle.takes.specs.declared.Judgement.{Judgement}
-use Rattle.takes.specs.declared.Written.{Written}
+use Rattle.takes.specs.Files.{Judgement}
+use Rattle.takes.specs.Writing.{Written, written_of}
 use Rattle.takes.proofs.Numbers.{bytes_drop}
-use Rattle.takes.proofs.Heads.{two-set, head-stored}
+use Rattle.takes.proofs.Heads.{two_set, head-stored}
 use Rattle.takes.proofs.Readings.{Whole, the_record, span}
 use Rattle.takes.proofs.Walks.{Next}
 use Rattle.takes.proofs.WholeFiles.{Head, head-accepted, head-bytes, file-accepted}
@@ -34,6 +38,11 @@ module _ (file : List ℕ) (j : Judgement) (judged : j ≡ judgement file) where
 
   pub size-judged : j.number ≡ 0 → j.size ≡ size_byte file
   size-judged z = let e : file_number file ≡ 0 = sym number-judged ∙ z in ap (λ (x : Judgement). x.size) judged ∙ rw e
+
+-- what a writer did not refuse can be unwrapped
+pub written-ok : (r : Result ℕ Reason) → (written_of r).number ≡ 0 → IsOk r
+written-ok (Ok count) z = search rules
+written-ok (Err reason) z = absurd (some-number reason z)
 
 -- the writer's answer for the record that some bytes start with: those bytes
 rewritten : (bs out : List ℕ) → Bytes bs → Whole bs → length bs ≤ length out
@@ -62,10 +71,14 @@ module _ (file out : List ℕ) (size : ℕ) (w : Written) (out₁ : List ℕ) (g
   room-for-head : head_length ≤ length out
   room-for-head = omega (arith, head.both)
 
+  head-outcome : write_outcome w out₁ ≡ record { number = 0; count = head_length; slice = set (set out 0 1) 1 size }
+  head-outcome = head-written ∙ sym (head-stored size out (omega (arith, head.low)) (omega (arith, head.high)) room-for-head)
+
+  pub head-fits : w.number ≡ 0
+  head-fits = ap (λ (x : WriteOutcome). x.number) head-outcome
+
   head-bytes-are : out₁ ≡ 1 ∷ size ∷ drop head_length out
-  head-bytes-are =
-      let stored = head-stored size out (omega (arith, head.low)) (omega (arith, head.high)) room-for-head in
-      ap (λ (x : WriteOutcome). x.slice) (head-written ∙ sym stored) ∙ two-set out 1 size room-for-head
+  head-bytes-are = ap (λ (x : WriteOutcome). x.slice) head-outcome ∙ two_set out 1 size room-for-head
 
   head-is : out₁ ≡ take head_length file ++ drop head_length out
   head-is =
@@ -124,13 +137,18 @@ module _ (file out₀ out : List ℕ) (at : ℕ) (r : Record) (next : ℕ) (w : 
   none-behind : drop (length out - at) (drop at out) ≡ []
   none-behind = let h : length (drop at out) ≤ length out - at = omega (arith, length-drop at out) in drop_of_length-le (drop at out) h
 
-  part-is : part ≡ take (span here) here ++ drop (span here) (drop at out)
-  part-is =
+  part-outcome : write_outcome w part ≡ record { number = 0; count = span here; slice = take (span here) here ++ drop (span here) (drop at out) }
+  part-outcome =
       let fits : length here ≤ length (drop at out) = omega (arith, length-drop at out, length-drop at file, l.room, l.same) in
-      ap (λ (x : WriteOutcome). x.slice)
-      (record-written
+      record-written
       ∙ (ap (write_record r) lent-all
-      ∙ (ap (λ (x : Record). write_record x (drop at out)) n.the-record ∙ rewritten here (drop at out) (bytes_drop at file bytes) n.whole fits)))
+      ∙ (ap (λ (x : Record). write_record x (drop at out)) n.the-record ∙ rewritten here (drop at out) (bytes_drop at file bytes) n.whole fits))
+
+  pub record-fits : w.number ≡ 0
+  record-fits = ap (λ (x : WriteOutcome). x.number) part-outcome
+
+  part-is : part ≡ take (span here) here ++ drop (span here) (drop at out)
+  part-is = ap (λ (x : WriteOutcome). x.slice) part-outcome
 
   next-is : at + span here ≡ next
   next-is = sym (n.next-place ∙ add_assoc at 1 (length_byte here))

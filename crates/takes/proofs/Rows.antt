@@ -1,245 +1,126 @@
--- A row's kinds as the hexadecimal digits of a number: what the reader's tests of them tell, and the writer's two loops, which take them one by one.
-use Prim.Native.Nat.{ℕ, suc, ◌+◌, ◌/◌, ◌%◌, ◌≤◌, ◌<◌}
+-- The kinds of an operation's fields: the reader's search among the first of them, and the writer's two loops over all.
+use Prim.Native.Nat.{ℕ, zero, suc, ◌+◌, ◌≤◌, ◌<◌}
 use mathlib.Core.Path.{◌≡◌, refl, sym, ◌∙◌, ap}
-use mathlib.Core.Bool.{Bool, true, false, ◌||◌, ◌&&◌, cond}
+use mathlib.Core.Bool.{Bool, true, false, ◌||◌, ◌&&◌, false≢true}
 use mathlib.Core.List.{List, [], ◌∷◌, ◌++◌}
 use native.Mathlib.Omega.{arith}
 use native.Mathlib.Numerals.{add-one}
+use native.Mathlib.Nat.{add-zero, add_assoc}
 use lib.Dec.{leb}
-use lib.ListN.{length, get_or, drop}
-use lib.Seq.{drop-cons, get_or-drop}
-use borrow.Author.Tests.{leb-true, le-leb, lt-leb}
+use lib.ListN.{length, get_or, drop, drop_of_length-le}
+use lib.Seq.{drop-cons, drop-drop, get_or-drop}
+use borrow.Author.Tests.{leb-true}
 use Rattle.common.specs.Bytes.{big_endian, bytes_of, over}
-use Rattle.common.proofs.Booleans.{or-none}
+use Rattle.common.proofs.Booleans.{and_left, and_right, or-none}
 use Rattle.common.proofs.Bytes.{over_none, over-append, length-bytes_of}
 use Rattle.heap.specs.Registers.{register_count}
 use Rattle.takes.specs.Operations.{Kind, register, byte, half, word, known, kinds_of, size, sizes}
-use Rattle.takes.specs.Reading.{operation_byte, field_values, values, is_high, high_register}
+use Rattle.takes.specs.Reading.{values, high_register}
 use Rattle.takes.specs.Writing.{value_bytes}
-use Rattle.takes.specs.Inner.{code, digits, size_at, high_at, byte_at}
+use Rattle.takes.specs.Inner.{registers_in, any_high}
 use Rattle.takes.proofs.Operations.{every-operation}
 use Rattle.takes.proofs.Fields.{number-one}
 
--- What a number says that is not 0: the kind of the next field by its last digit, and the kinds after it by the others.
-pub record Ahead (ks : List Kind) (n : ℕ) : Type 0 where
-  pub kind : Kind
-  pub after : List Kind
-  pub is : ks ≡ kind ∷ after
-  pub size_is : size_at (n % 16) ≡ size kind
-  pub high_is : (v : ℕ) → high_at (n % 16) v ≡ is_high kind v
-  pub rest-is : n / 16 ≡ digits after
+-- In every row the registers, one to three, are the first fields.
+abbrev no_register : List Kind → Bool
+no_register [] = true
+no_register (register ∷ ks) = false
+no_register (byte ∷ ks) = no_register ks
+no_register (half ∷ ks) = no_register ks
+no_register (word ∷ ks) = no_register ks
 
-last-digit : (κ : Kind) (ks : List Kind) → digits (κ ∷ ks) % 16 ≡ code κ
-last-digit register ks = omega arith
-last-digit byte ks = omega arith
-last-digit half ks = omega arith
-last-digit word ks = omega arith
+abbrev registers_first : List Kind → Bool
+registers_first ks = leb 1 (registers_in ks) && (leb (registers_in ks) 3 && no_register (drop (registers_in ks) ks))
 
-other-digits : (κ : Kind) (ks : List Kind) → digits (κ ∷ ks) / 16 ≡ digits ks
-other-digits register ks = omega arith
-other-digits byte ks = omega arith
-other-digits half ks = omega arith
-other-digits word ks = omega arith
-
-size-code : (κ : Kind) → size_at (code κ) ≡ size κ
-size-code register = refl
-size-code byte = refl
-size-code half = refl
-size-code word = refl
-
-high-code : (κ : Kind) (v : ℕ) → high_at (code κ) v ≡ is_high κ v
-high-code register v = refl
-high-code byte v = refl
-high-code half v = refl
-high-code word v = refl
-
-pub ahead : (ks : List Kind) (n : ℕ) → n ≡ digits ks → (n ≡ 0 → ⊥) → Ahead ks n
-ahead [] n e z = absurd (z e)
-ahead (κ ∷ ks) n e z =
-    let d : n % 16 ≡ code κ = ap (λ (n : ℕ). n % 16) e ∙ last-digit κ ks in
-    record {
-      kind = κ;
-      after = ks;
-      is = refl;
-      size_is = rw d (size-code κ);
-      high_is = λ v. rw d (high-code κ v);
-      rest-is = ap (λ (n : ℕ). n / 16) e ∙ other-digits κ ks;
-    }
-
--- 0 says that no field is left
-none_ahead : (ks : List Kind) → 0 ≡ digits ks → ks ≡ []
-none_ahead [] e = refl
-none_ahead (register ∷ ks) e = absurd (omega arith)
-none_ahead (byte ∷ ks) e = absurd (omega arith)
-none_ahead (half ∷ ks) e = absurd (omega arith)
-none_ahead (word ∷ ks) e = absurd (omega arith)
-
-size_few : (κ : Kind) → (1 ≤ size κ) × (size κ ≤ 4)
-size_few register = (omega arith, omega arith)
-size_few byte = (omega arith, omega arith)
-size_few half = (omega arith, omega arith)
-size_few word = (omega arith, omega arith)
-
--- The reader's tests. In every row the registers, one to three, are the first fields; by their digits the second and the third field are registers or not.
-abbrev second : ℕ → Bool
-second kinds = leb 8 (kinds / 16 % 16)
-
-abbrev third : ℕ → Bool
-third kinds = leb 8 (kinds / 256 % 16)
-
-abbrev registers_in : ℕ → ℕ
-registers_in kinds = 1 + cond (second kinds) (1 + cond (third kinds) 1 0) 0
-
--- whether one of them is high, by the first three bytes of the fields
-abbrev high_first : ℕ → ℕ → ℕ → ℕ → Bool
-high_first kinds u v w = leb register_count u || (second kinds && (leb register_count v || (third kinds && (leb register_count w || false))))
-
-abbrev Room : ℕ → Type 0
-Room op = leb (registers_in (digits (kinds_of op))) (sizes (kinds_of op)) ≡ true
-
-room-first : (op : ℕ) → known op ≡ true → Room op
+row-order : (op : ℕ) → known op ≡ true → registers_first (kinds_of op) ≡ true
 unfolding kinds_of
-room-first = every-operation Room (refl, (refl, (refl, (refl, (refl, (refl, (refl, (refl, (refl, (refl, (refl, (refl, (refl, tt)))))))))))))
+row-order =
+    every-operation (λ op. registers_first (kinds_of op) ≡ true)
+    (refl, (refl, (refl, (refl, (refl, (refl, (refl, (refl, (refl, (refl, (refl, (refl, (refl, tt)))))))))))))
 
-abbrev one : List ℕ → ℕ
-one bs = big_endian bs 0 1
+pub few-registers : (op : ℕ) → known op ≡ true → (1 ≤ registers_in (kinds_of op)) × (registers_in (kinds_of op) ≤ 3)
+few-registers op h =
+    let n : ℕ = registers_in (kinds_of op) in
+    let o : registers_first (kinds_of op) ≡ true = row-order op h in
+    (leb-true 1 n (and_left (leb 1 n) _ o), leb-true n 3 (and_left (leb n 3) _ (and_right (leb 1 n) _ o)))
 
-abbrev High : ℕ → Type 0
-High op =
-    ◌≡◌ {A = List ℕ → Bool} (λ bs. high_register (kinds_of op) (values (kinds_of op) bs))
-    (λ bs. high_first (digits (kinds_of op)) (one bs) (one (drop 1 bs)) (one (drop 1 (drop 1 bs))))
+pub registers-inside : (ks : List Kind) → registers_in ks ≤ sizes ks
+registers-inside [] = omega arith
+registers-inside (register ∷ ks) = omega (arith, registers-inside ks)
+registers-inside (byte ∷ ks) = omega arith
+registers-inside (half ∷ ks) = omega arith
+registers-inside (word ∷ ks) = omega arith
 
-high-first : (op : ℕ) → known op ≡ true → High op
-unfolding kinds_of
-high-first = every-operation High (refl, (refl, (refl, (refl, (refl, (refl, (refl, (refl, (refl, (refl, (refl, (refl, (refl, tt)))))))))))))
+none-high : (ks : List Kind) (vs : List ℕ) → no_register ks ≡ true → high_register ks vs ≡ false
+none-high [] vs h = refl
+none-high (register ∷ ks) [] h = refl
+none-high (byte ∷ ks) [] h = refl
+none-high (half ∷ ks) [] h = refl
+none-high (word ∷ ks) [] h = refl
+none-high (register ∷ ks) (v ∷ vs) h = absurd (false≢true h)
+none-high (byte ∷ ks) (v ∷ vs) h = none-high ks vs h
+none-high (half ∷ ks) (v ∷ vs) h = none-high ks vs h
+none-high (word ∷ ks) (v ∷ vs) h = none-high ks vs h
 
--- The record at a place of a file, as the tests find it, and what each of them tells.
-pub record Tested (s : List ℕ) (at kinds : ℕ) : Type 0 where
-  pub listed : known (operation_byte (drop at s)) ≡ true
-  pub coded : kinds ≡ digits (kinds_of (operation_byte (drop at s)))
-  pub fit : at + 2 + sizes (kinds_of (operation_byte (drop at s))) ≤ length s
+-- so the first bytes tell whether a record has a high register
+first-tell : (ks : List Kind) (s : List ℕ) (at : ℕ) → no_register (drop (registers_in ks) ks) ≡ true
+    → any_high (registers_in ks) s at ≡ high_register ks (values ks (drop at s))
+first-tell [] s at h = refl
+first-tell (register ∷ ks) s at h =
+    let v : big_endian (drop at s) 0 1 ≡ get_or s at 0 =
+    number-one (drop at s) 0 ∙ (get_or-drop at s 0 0 ∙ ap (λ (n : ℕ). get_or s n 0) (add-zero at)) in
+    rw (v, drop-drop 1 at s, first-tell ks s (at + 1) h)
+first-tell (byte ∷ ks) s at h = sym (none-high ks _ h)
+first-tell (half ∷ ks) s at h = sym (none-high ks _ h)
+first-tell (word ∷ ks) s at h = sym (none-high ks _ h)
 
-module _ {s : List ℕ} {at kinds : ℕ} (t : Tested s at kinds) where
-  abbrev op : ℕ
-  op = operation_byte (drop at s)
+pub registers-tell : (op : ℕ) → known op ≡ true → (s : List ℕ) (at : ℕ)
+    → any_high (registers_in (kinds_of op)) s at ≡ high_register (kinds_of op) (values (kinds_of op) (drop at s))
+registers-tell op h s at =
+    let n : ℕ = registers_in (kinds_of op) in
+    first-tell (kinds_of op) s at (and_right (leb n 3) _ (and_right (leb 1 n) _ (row-order op h)))
 
-  abbrev whole : Bool
-  whole = high_register (kinds_of op) (field_values (drop at s))
+-- one to three of them, by the tests that the code makes
+pub tested : (n : ℕ) (s : List ℕ) (at : ℕ) → 1 ≤ n → n ≤ 3
+    → any_high n s at
+    ≡ (leb register_count (get_or s at 0)
+    || (leb 2 n && (leb register_count (get_or s (at + 1) 0) || (leb 3 n && leb register_count (get_or s (at + 2) 0)))))
+tested zero s at h k = absurd (omega arith)
+tested (suc zero) s at h k = refl
+tested (suc (suc zero)) s at h k = refl
+tested (suc (suc (suc zero))) s at h k =
+    ap (λ (b : Bool). leb register_count (get_or s at 0) || (leb register_count (get_or s (at + 1) 0) || b))
+    (sym (or-none _) ∙ ap (λ (n : ℕ). leb register_count (get_or s n 0)) (add_assoc at 1 1))
+tested (suc (suc (suc (suc n)))) s at h k = absurd (omega arith)
 
-  room : at + 2 + registers_in kinds ≤ length s
-  room = let h = leb-true _ (sizes (kinds_of op)) (room-first op t.listed) in rw t.coded (omega (arith, t.fit, h))
-
-  high : high_first kinds (byte_at s (at + 2)) (byte_at s (at + 3)) (byte_at s (at + 4)) ≡ whole
-  high =
-      let bs : List ℕ = drop 2 (drop at s) in
-      let u = number-one bs 0 ∙ (get_or-drop 2 (drop at s) 0 0 ∙ get_or-drop at s 2 0) in
-      let v = number-one (drop 1 bs) 0 ∙ (get_or-drop 1 bs 0 0 ∙ (get_or-drop 2 (drop at s) 1 0 ∙ get_or-drop at s 3 0)) in
-      let w =
-      number-one (drop 1 (drop 1 bs)) 0 ∙ (get_or-drop 1 (drop 1 bs) 0 0 ∙ (get_or-drop 1 bs 1 0 ∙ (get_or-drop 2 (drop at s) 2 0 ∙ get_or-drop at s 4 0))) in
-      sym (rw (t.coded, ← u, ← v, ← w) (ap (λ (f : List ℕ → Bool). f bs) (high-first op t.listed)))
-
-  pub first-inside : at + 2 < length s
-  first-inside = omega (arith, room)
-
-  pub first-high : register_count ≤ byte_at s (at + 2) → true ≡ whole
-  first-high h = rw (le-leb register_count _ h) at high
-
-  module _ (low : byte_at s (at + 2) < register_count) where
-    pub no_second : kinds / 16 % 16 < 8 → false ≡ whole
-    no_second d = rw (lt-leb register_count _ low, lt-leb 8 _ d) at high
-
-    module _ (two : 8 ≤ kinds / 16 % 16) where
-      pub second-inside : at + 3 < length s
-      second-inside = let h = rw (le-leb 8 _ two) at room in omega (arith, h)
-
-      pub second-high : register_count ≤ byte_at s (at + 3) → true ≡ whole
-      second-high h = rw (lt-leb register_count _ low, le-leb 8 _ two, le-leb register_count _ h) at high
-
-      module _ (low-2 : byte_at s (at + 3) < register_count) where
-        pub no_third : kinds / 256 % 16 < 8 → false ≡ whole
-        no_third d = rw (lt-leb register_count _ low, le-leb 8 _ two, lt-leb register_count _ low-2, lt-leb 8 _ d) at high
-
-        module _ (three : 8 ≤ kinds / 256 % 16) where
-          pub third-inside : at + 4 < length s
-          third-inside = let h = rw (le-leb 8 _ two, le-leb 8 _ three) at room in omega (arith, h)
-
-          pub third-tells : leb register_count (byte_at s (at + 4)) ≡ whole
-          third-tells = or-none _ ∙ (rw (lt-leb register_count _ low, le-leb 8 _ two, lt-leb register_count _ low-2, le-leb 8 _ three) at high)
-
--- The writer's first loop: the values from column k on have a high register where all have.
-pub record Seeking (vs : List ℕ) (whole : Bool) (kinds k : ℕ) : Type 0 where
-  pub rest : List Kind
-  pub coded : kinds ≡ digits rest
-  pub columns : k + length rest ≤ length vs
-  pub same : high_register rest (drop k vs) ≡ whole
-
-module _ {vs : List ℕ} {whole : Bool} {kinds k : ℕ} (l : Seeking vs whole kinds k) where
-  pub seeking-end : kinds ≡ 0 → false ≡ whole
-  seeking-end z = rw (none_ahead l.rest (sym z ∙ l.coded)) at l.same
-
-  module _ (some : kinds ≡ 0 → ⊥) where
-    abbrev next : Ahead l.rest kinds
-    next = ahead l.rest kinds l.coded some
-
-    pub seeking-column : k + suc (length next.after) ≤ length vs
-    seeking-column = rw next.is at l.columns
-
-    high-next : (high_at (kinds % 16) (get_or vs k 0) || high_register next.after (drop (k + 1) vs)) ≡ whole
-    high-next =
-        let c : k < length vs = omega (arith, seeking-column) in
-        rw (next.high_is (get_or vs k 0), add-one k) (rw (next.is, drop-cons vs k 0 c) at l.same)
-
-    pub seeking-stop : true ≡ high_at (kinds % 16) (get_or vs k 0) → true ≡ whole
-    seeking-stop h = rw (← h) at high-next
-
-    pub seeking-turn : false ≡ high_at (kinds % 16) (get_or vs k 0) → Seeking vs whole (kinds / 16) (k + 1)
-    seeking-turn h = record { rest = next.after; coded = next.rest-is; columns = omega (arith, seeking-column); same = rw (← h) at high-next }
+-- The writer's first loop: the fields from k on have a high register where all have.
+abbrev pub Seeking : List Kind → List ℕ → ℕ → Type 0
+Seeking ks vs k = high_register (drop k ks) (drop k vs) ≡ high_register ks vs
 
 -- The writer's second loop: what is still to be put, at the place reached, gives the whole.
-pub record Putting (vs out₀ whole out : List ℕ) (kinds at k : ℕ) : Type 0 where
-  pub rest : List Kind
-  pub coded : kinds ≡ digits rest
-  pub columns : k + length rest ≤ length vs
+pub record Putting (ks : List Kind) (vs out₀ out : List ℕ) (at k : ℕ) : Type 0 where
   pub same : length out ≡ length out₀
-  pub room : at + sizes rest ≤ length out
-  pub put : over out at (value_bytes rest (drop k vs)) ≡ whole
+  pub room : at + sizes (drop k ks) ≤ length out
+  pub put : over out at (value_bytes (drop k ks) (drop k vs)) ≡ over out₀ 2 (value_bytes ks vs)
 
-module _ {vs out₀ whole out : List ℕ} {kinds at k : ℕ} (l : Putting vs out₀ whole out kinds at k) where
-  pub putting-end : kinds ≡ 0 → out ≡ whole
-  putting-end z = sym (over_none out at) ∙ (rw (none_ahead l.rest (sym z ∙ l.coded)) at l.put)
+module _ {ks : List Kind} {vs out₀ out : List ℕ} {at k : ℕ} (l : Putting ks vs out₀ out at k) where
+  pub putting-end : length ks ≤ k → out ≡ over out₀ 2 (value_bytes ks vs)
+  putting-end h =
+      let none : drop k ks ≡ [] = drop_of_length-le ks h in
+      sym (over_none out at) ∙ (ap (λ (κs : List Kind). over out at (value_bytes κs (drop k vs))) (sym none) ∙ l.put)
 
-  module _ (some : kinds ≡ 0 → ⊥) where
-    abbrev field : Ahead l.rest kinds
-    field = ahead l.rest kinds l.coded some
-
-    pub putting-column : k + suc (length field.after) ≤ length vs
-    putting-column = rw field.is at l.columns
-
-    module _ (n : ℕ) (size-here : n ≡ size_at (kinds % 16)) where
-      same_size : n ≡ size field.kind
-      same_size = size-here ∙ field.size_is
-
-      pub putting-room : (n ≤ 4) × (at + n + sizes field.after ≤ length out)
-      putting-room =
-          let r : at + (size field.kind + sizes field.after) ≤ length out = rw field.is at l.room in
-          (omega (arith, same_size, size_few field.kind), omega (arith, same_size))
-
-      pub putting-turn : (out' : List ℕ) → out' ≡ over out at (bytes_of n (get_or vs k 0)) → length out' ≡ length out
-          → Putting vs out₀ whole out' (kinds / 16) (at + n) (k + 1)
-      putting-turn out' e m =
-          let v : ℕ = get_or vs k 0 in
-          let more : List ℕ = value_bytes field.after (drop (suc k) vs) in
-          let c : k < length vs = omega (arith, putting-column) in
-          let b : length (bytes_of n v) ≡ n = length-bytes_of n v in
-          let w : over out at (bytes_of (size field.kind) v ++ more) ≡ whole = rw (field.is, drop-cons vs k 0 c) at l.put in
-          let u : over out at (bytes_of n v ++ more) ≡ whole = ap (λ (z : ℕ). over out at (bytes_of z v ++ more)) same_size ∙ w in
-          let t : over (over out at (bytes_of n v)) (at + length (bytes_of n v)) more ≡ whole =
-          over-append out at (bytes_of n v) more (omega (arith, putting-room)) ∙ u in
-          record {
-            rest = field.after;
-            coded = field.rest-is;
-            columns = omega (arith, putting-column);
-            same = m ∙ l.same;
-            room = omega (arith, putting-room);
-            put = rw (e, add-one k) (rw b at t);
-          }
+  pub putting-turn : k < length ks → k < length vs → (n : ℕ) → n ≡ size (get_or ks k register) → (out' : List ℕ)
+      → out' ≡ over out at (bytes_of n (get_or vs k 0)) → length out' ≡ length out → Putting ks vs out₀ out' (at + n) (k + 1)
+  putting-turn here column n size-here out' e m =
+      let κ : Kind = get_or ks k register in
+      let v : ℕ = get_or vs k 0 in
+      let more : List ℕ = value_bytes (drop (suc k) ks) (drop (suc k) vs) in
+      let b : length (bytes_of n v) ≡ n = length-bytes_of n v in
+      let r : at + (size κ + sizes (drop (suc k) ks)) ≤ length out = rw (drop-cons ks k register here) at l.room in
+      let w : over out at (bytes_of (size κ) v ++ more) ≡ over out₀ 2 (value_bytes ks vs) =
+      rw (drop-cons ks k register here, drop-cons vs k 0 column) at l.put in
+      let u : over out at (bytes_of n v ++ more) ≡ over out₀ 2 (value_bytes ks vs) =
+      ap (λ (z : ℕ). over out at (bytes_of z v ++ more)) size-here ∙ w in
+      let t : over (over out at (bytes_of n v)) (at + length (bytes_of n v)) more ≡ over out₀ 2 (value_bytes ks vs) =
+      over-append out at (bytes_of n v) more (omega (arith, r, size-here)) ∙ u in
+      rw (add-one k) (record { same = m ∙ l.same; room = omega (arith, r, size-here); put = rw e (rw b at t) })

@@ -1,12 +1,14 @@
 -- Judging a whole file, and the records of an accepted one.
-use Rattle.std.specs.Prelude.{ℕ, zero, suc, Bool, true, false, not, cond, ◌||◌, List, [], ◌∷◌, eqb, leb, ltb, length, get_or}
+use Rattle.std.specs.Prelude.{ℕ, zero, suc, Bool, true, false, not, cond, ◌||◌, List, [], ◌∷◌, eqb, leb, ltb, length, get_or, Result, Ok, Err}
 use Rattle.std.proofs.Math.Option.{Option, none, some}
 use Rattle.common.specs.Refusals.{Refusal, ◌when◌, first}
+use Rattle.common.specs.Numbers.{number_of}
 use Rattle.blocks.specs.Orders.{is_arena_order}
 use Rattle.takes.specs.Records.{back_to}
 use Rattle.takes.specs.Reading.{Given, read_at}
+use Rattle.common.specs.declared.reasons.Refusal.{Refusal as Reason}
 use Rattle.takes.specs.declared.Record.{Record}
-use Rattle.takes.specs.declared.Judgement.{Judgement}
+use Rattle.takes.specs.declared.Judged.{Judged}
 
 -- The records from a place on, up to the end or the first that is refused, and its number, 0 where none is.
 pub record Walk : Type 0 where
@@ -90,6 +92,17 @@ file_rules file =
 
 unfoldable pub file_number : List ℕ → ℕ
 file_number file = first (file_rules file)
+
+-- What judging a file gives: its refusal, or 0 with the size byte and the count of its records.
+pub record Judgement : Type 0 where
+  pub number : ℕ
+  pub size : ℕ
+  pub count : ℕ
+
+-- the code's answer, in those terms
+abbrev pub judgement_of : Result Judged Reason → Judgement
+judgement_of (Ok j) = record { number = 0; size = j.size; count = j.count }
+judgement_of (Err reason) = record { number = number_of reason; size = 0; count = 0 }
 
 -- refused, it has no size and counts no record
 abbrev pub judgement : List ℕ → Judgement

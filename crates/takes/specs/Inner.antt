@@ -1,45 +1,31 @@
--- What the parts of the code say to each other: the operation table as numbers, and each operation's record straight from the bytes of its fields. Only the
--- contracts of inner functions cite these: no customer's call rests on them, and document 01 has none of them.
-use Rattle.std.specs.Prelude.{ℕ, ◌+◌, ◌*◌, ◌%◌, Bool, false, cond, List, [], ◌∷◌, ◌++◌, eqb, leb, get_or, take, drop, replicate}
+-- What the parts of the code say to each other: a row's registers, a record's values with zeros behind them, and each operation's record straight from the
+-- bytes of its fields. Only the contracts of inner functions cite these: no customer's call rests on them, and document 01 has none of them.
+use Rattle.std.specs.Prelude.{ℕ, zero, suc, ◌+◌, Bool, false, ◌||◌, List, [], ◌∷◌, ◌++◌, leb, get_or, take, drop, replicate}
 use Rattle.common.specs.Bytes.{big_endian}
-use Rattle.heap.specs.OperationNumbers.{last_operation}
 use Rattle.heap.specs.Registers.{register_count}
-use Rattle.takes.specs.Operations.{Kind, register, byte, half, word, known, kinds_of, length_of}
+use Rattle.takes.specs.Operations.{Kind, register, byte, half, word, kinds_of}
 use Rattle.takes.specs.Records.{record_of}
 use Rattle.takes.specs.Reading.{values, operation_byte, field_values}
 use Rattle.takes.specs.Files.{strays}
 use Rattle.takes.specs.declared.Record.{Record}
 use Rattle.takes.specs.declared.Record.TheVariants.{Get, Give, Step, Read, Write, Left, Copy, Fill, Lock, Unlock, Again, Set, Grid}
 
--- The table: one row more than there are operations, for the number 0, and the most fields that a row has
-abbrev pub table_rows : ℕ
-table_rows = last_operation + 1
-
+-- the most fields that an operation has
 abbrev pub most_fields : ℕ
 most_fields = 6
 
--- a kind's number: the bytes that a field takes, and 8 more for a register
-abbrev pub code : Kind → ℕ
-code register = 9
-code byte = 1
-code half = 2
-code word = 4
+-- how many of these fields, from the first on, are registers
+abbrev pub registers_in : List Kind → ℕ
+registers_in [] = 0
+registers_in (register ∷ ks) = suc (registers_in ks)
+registers_in (byte ∷ ks) = 0
+registers_in (half ∷ ks) = 0
+registers_in (word ∷ ks) = 0
 
--- kinds as the hexadecimal digits of a number, the first kind's digit the last
-abbrev pub digits : List Kind → ℕ
-digits [] = 0
-digits (k ∷ ks) = code k + 16 * digits ks
-
--- an operation's row: its last two hexadecimal digits are the length byte of its records, those before them the kinds of its fields; 0 is no operation's
-unfoldable pub row_of : ℕ → ℕ
-row_of op = cond (known op) (length_of op + 256 * digits (kinds_of op)) 0
-
--- by a kind's number: the bytes that a field takes, and whether a value is a register past the last
-abbrev pub size_at : ℕ → ℕ
-size_at c = c % 8
-
-abbrev pub high_at : ℕ → ℕ → Bool
-high_at c v = cond (eqb c 9) (leb register_count v) false
+-- one of n bytes of the file, from a place on, is a register past the last
+abbrev pub any_high : ℕ → List ℕ → ℕ → Bool
+any_high zero file at = false
+any_high (suc n) file at = leb register_count (get_or file at 0) || any_high n file (at + 1)
 
 -- values with zeros after them, one for each column
 abbrev pub padded : List ℕ → List ℕ

@@ -1,9 +1,8 @@
 -- The take's operation table: the number of each operation and the kinds of its fields, in the file's order.
 use Rattle.std.specs.Prelude.{ℕ, ◌+◌, Bool, false, cond, ◌||◌, List, [], ◌∷◌, eqb}
-
 -- a register byte, a plain byte, or a big-endian number of two bytes or of four
-pub data Kind : Type 0 where
-  register byte half word : Kind
+pub use Rattle.takes.specs.declared.table.Kind.{Kind}
+pub use Rattle.takes.specs.declared.table.Kind.TheVariants.{Register as register, Byte as byte, Half as half, Word as word}
 
 pub data Row : Type 0 where
   ◌has◌ : ℕ → List Kind → Row

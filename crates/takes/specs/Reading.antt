@@ -1,14 +1,15 @@
 -- Reading the record at a place of a file.
-use Rattle.std.specs.Prelude.{ℕ, ◌+◌, ◌-◌, Bool, false, not, cond, ◌||◌, List, [], ◌∷◌, eqb, leb, ltb, length, get_or, drop}
+use Rattle.std.specs.Prelude.{ℕ, ◌+◌, ◌-◌, Bool, false, not, cond, ◌||◌, List, [], ◌∷◌, eqb, leb, ltb, length, get_or, drop, Result, Ok, Err}
 use Rattle.std.proofs.Math.Option.{Option, none, some}
 use Rattle.common.specs.Refusals.{Refusal, ◌when◌, first}
+use Rattle.common.specs.Numbers.{number_of}
 use Rattle.common.specs.Bytes.{big_endian}
 use Rattle.heap.specs.Registers.{register_count}
 use Rattle.takes.specs.Operations.{Kind, register, byte, half, word, size, known, kinds_of, length_of}
 use Rattle.takes.specs.Records.{record_of}
+use Rattle.common.specs.declared.reasons.Refusal.{Refusal as Reason}
 use Rattle.takes.specs.declared.Record.{Record}
 use Rattle.takes.specs.declared.Reading.{Reading}
-use Rattle.takes.specs.declared.Reading.TheVariants.{Found, Refused}
 
 -- the values of fields that stand one after the other at the start of some bytes
 abbrev pub values : List Kind → List ℕ → List ℕ
@@ -60,10 +61,10 @@ record_found r next = record { number = 0; found = some r; next = next }
 abbrev pub record_refused : ℕ → Given
 record_refused n = record { number = n; found = none; next = 0 }
 
--- the cases of the code's answer, in those terms
-abbrev pub given : Reading → Given
-given (Found r next) = record_found r next
-given (Refused n) = record_refused n
+-- the code's answer, in those terms
+abbrev pub given : Result Reading Reason → Given
+given (Ok r) = record_found r.record r.next
+given (Err reason) = record_refused (number_of reason)
 
 -- by its number a record is given or refused
 abbrev pub unless_refused : ℕ → Given → Given

@@ -1,14 +1,15 @@
 -- Writing the head of a file and its records.
-use Rattle.std.specs.Prelude.{ℕ, not, cond, List, [], ◌∷◌, ◌++◌, eqb, ltb, length, drop}
+use Rattle.std.specs.Prelude.{ℕ, not, cond, List, [], ◌∷◌, ◌++◌, eqb, ltb, length, drop, Result, Ok, Err}
 use Rattle.common.specs.Refusals.{Refusal, ◌when◌, first}
+use Rattle.common.specs.Numbers.{number_of}
 use Rattle.common.specs.Bytes.{bytes_of}
 use Rattle.takes.specs.Operations.{Kind, kinds_of, size, length_of}
 use Rattle.takes.specs.Records.{operation, fields}
 use Rattle.takes.specs.Reading.{high_register}
 use Rattle.blocks.specs.Orders.{is_arena_order}
 use Rattle.takes.specs.Files.{file_number}
+use Rattle.common.specs.declared.reasons.Refusal.{Refusal as Reason}
 use Rattle.takes.specs.declared.Record.{Record}
-use Rattle.takes.specs.declared.Written.{Written}
 
 -- the bytes of fields one after the other
 abbrev pub value_bytes : List Kind → List ℕ → List ℕ
@@ -30,6 +31,16 @@ records_bytes (r ∷ rs) = record_bytes r ++ records_bytes rs
 -- the file of m and some records
 abbrev pub file_of : ℕ → List Record → List ℕ
 file_of m rs = head_bytes m ++ records_bytes rs
+
+-- A writer's refusal, or 0 with the count of the bytes stored.
+pub record Written : Type 0 where
+  pub number : ℕ
+  pub count : ℕ
+
+-- the code's answer, in those terms
+abbrev pub written_of : Result ℕ Reason → Written
+written_of (Ok count) = record { number = 0; count = count }
+written_of (Err reason) = record { number = number_of reason; count = 0 }
 
 -- What a writer gives: a number, the count of the bytes stored, and the lent slice as it leaves it.
 pub record WriteOutcome : Type 0 where

@@ -1,74 +1,56 @@
 // The judging of a whole file: its head and its length, then record by record.
 ghost use Rattle.std.specs.Prelude.{◌≡◌};
-ghost use Rattle.takes.specs.Files.{head_number, judgement};
+ghost use Rattle.common.specs.Numbers.{number_in};
+ghost use Rattle.blocks.specs.Orders.{is_arena_order};
+ghost use Rattle.takes.specs.Files.{head_number, judgement_of, judgement};
 
-use crate::reader::refusal;
-use crate::{HEAD, Judgement, LONGEST, unchecked};
+use crate::reader::judge_record;
+use crate::{HEAD, Judged, LONGEST};
 use blocks::{LARGEST_ARENA, SMALLEST_ARENA};
-use common::wide;
+use common::Refusal;
 
-// A file's refusal by its head and its length, 0 where there is none.
-fn judge_head(file: &[u8]) -> u32
-    ensures { result ≡ head_number file.now }
+// Whether an arena may have the size m.
+pub fn is_arena_order(m: u32) -> bool
+    ensures { result ≡ is_arena_order m }
 {
-    if file.len() == 0 {
-        return 1;
+    (SMALLEST_ARENA..=LARGEST_ARENA).contains(&m)
+}
+
+// Judges a file by its head and its length.
+#[tactic(auto, unfolding(crate::specs::Files::head_number))]
+fn judge_head(file: &[u8]) -> Result<(), Refusal>
+    ensures { number_in result ≡ head_number file.now }
+{
+    if file.is_empty() || file[0] != 1 {
+        return Err(Refusal::NoTake);
     }
-    if file[0] != 1 {
-        return 1;
-    }
-    if file.len() < HEAD {
-        return 2;
-    }
-    let size = wide(file[1]);
-    if size < SMALLEST_ARENA {
-        return 2;
-    }
-    if LARGEST_ARENA < size {
-        return 2;
+    if file.len() < HEAD || !is_arena_order(u32::from(file[1])) {
+        return Err(Refusal::BadSize);
     }
     if LONGEST < file.len() {
-        return 3;
+        return Err(Refusal::TooLong);
     }
-    0
+    Ok(())
 }
 
 // Judges a whole file and counts its records.
-pub fn judge(file: &[u8]) -> Judgement
-    ensures { result ≡ judgement file.now }
+pub fn judge(file: &[u8]) -> Result<Judged, Refusal>
+    ensures { judgement_of result ≡ judgement file.now }
 {
-    let number = judge_head(file);
-    if number != 0 {
-        return Judgement {
-            number,
-            size: 0,
-            count: 0,
-        };
-    }
+    judge_head(file)?;
     let mut at = HEAD;
     let mut count = 0usize;
+    // Each record is as long as its first byte says, so no range and no chunks lead from one to the next.
     while at < file.len() {
-        let number = refusal(file, at);
-        if number != 0 {
-            return Judgement {
-                number,
-                size: 0,
-                count: 0,
-            };
+        let record = judge_record(file, at)?;
+        if record.strays(count) {
+            return Err(Refusal::Stray);
         }
-        if unchecked::strays(file, at, count) {
-            return Judgement {
-                number: 29,
-                size: 0,
-                count: 0,
-            };
-        }
-        at = unchecked::next(file, at);
+        at = record.next();
         count += 1;
     }
-    Judgement {
-        number: 0,
-        size: wide(file[1]),
+    Ok(Judged {
+        size: u32::from(file[1]),
         count,
-    }
+    })
 }

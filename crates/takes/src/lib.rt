@@ -13,7 +13,7 @@ mod writer;
 
 // A record of a take with its fields, in the file's order: registers first, then what is given as it stands. All but again and set make a call; again goes
 // back to the record whose index it holds, and set puts a number in a register.
-#[derive(Clone, Copy)]
+#[derive(Clone, Copy, Debug, PartialEq, Eq)]
 pub enum Record {
     Get(u8, u32),
     Give(u8),
@@ -30,26 +30,18 @@ pub enum Record {
     Grid(u8, u8, u8, u8, u8, u8),
 }
 
-// A record and the next place, or the number of a refusal.
-#[derive(Clone, Copy)]
-pub enum Reading {
-    Found(Record, usize),
-    Refused(u32),
+// What the reader finds at a place: a record, and the place after it.
+#[derive(Clone, Copy, Debug, PartialEq, Eq)]
+pub struct Reading {
+    pub record: Record,
+    pub next: usize,
 }
 
-// A file's refusal, or 0 with the size byte and the count of its records.
-#[derive(Clone, Copy)]
-pub struct Judgement {
-    pub number: u32,
+// What the judging of a file finds: its size byte, and how many records it has.
+#[derive(Clone, Copy, Debug, PartialEq, Eq)]
+pub struct Judged {
     pub size: u32,
     pub count: usize,
-}
-
-// A writer's refusal, or 0 with the count of the bytes stored.
-#[derive(Clone, Copy)]
-pub struct Written {
-    pub number: u32,
-    pub count: u32,
 }
 
 // Where the first record starts, and how long a file may be.

@@ -1,78 +1,153 @@
 // The operation table, which the reader and the writer consult, and what the kind of a field says.
 ghost use Rattle.std.specs.Prelude.{◌≡◌};
-ghost use Rattle.takes.specs.Inner.{row_of, size_at, high_at};
+ghost use Rattle.heap.specs.OperationNumbers.{number_of};
+ghost use Rattle.takes.specs.Operations.{kinds_of, length_of, size};
+ghost use Rattle.takes.specs.Reading.{is_high};
+ghost use Rattle.takes.specs.Inner.{registers_in};
 
-use common::index;
+use Kind::{Byte, Half, Register, Word};
+use heap::operations::Operation;
 use heap::{operations, registers};
 
 // One past the last register.
 pub const REGISTERS: u32 = registers::COUNT as u32;
 
-// The kind of a field is the count of its bytes, 1 for a plain byte, 2 and 4 for the big-endian numbers; a register, which is one byte, has 8 more.
-const REGISTER: u32 = 9;
+/// The kind of a field.
+#[derive(Clone, Copy, Debug, PartialEq, Eq)]
+pub enum Kind {
+    /// The number of a register, in a byte.
+    Register,
+    /// A byte that stands for itself.
+    Byte,
+    /// A big-endian number of two bytes.
+    Half,
+    /// A big-endian number of four bytes.
+    Word,
+}
 
-// One row more than there are operations.
-const ROWS: usize = operations::LAST as usize + 1;
+impl Kind {
+    // How many bytes a field takes.
+    pub fn size(self) -> usize
+        ensures { result ≡ size self }
+    {
+        match self {
+            Register => 1,
+            Byte => 1,
+            Half => 2,
+            Word => 4,
+        }
+    }
 
-// The operation table, a row for each operation and one for 0, which is none. A row's last two hexadecimal digits are the length byte of its records;
-// those before are the kinds of its fields, the first field's digit the last. So a record is looked up once, and its kinds come one by one.
-const OPERATIONS: [u32; ROWS] = [
-    // no operation
-    0,
+    // Whether a field's value is a register past the last.
+    pub fn is_high(self, v: u32) -> bool
+        ensures { result ≡ is_high self v }
+    {
+        self == Register && REGISTERS <= v
+    }
+}
+
+/// An operation's row: the length byte of its records, and the kinds of their fields. The registers, one to three, are the first of them.
+#[derive(Clone, Copy)]
+pub struct Row {
+    pub length: u8,
+    pub registers: u8,
+    pub kinds: &'static [Kind],
+}
+
+// A row for each operation, in the order of their numbers.
+static OPERATIONS: [Row; operations::LAST as usize] = [
     // get d n
-    0x49_06,
+    Row {
+        length: 6,
+        registers: 1,
+        kinds: &[Register, Word],
+    },
     // give a
-    0x9_02,
+    Row {
+        length: 2,
+        registers: 1,
+        kinds: &[Register],
+    },
     // step d a i
-    0x499_07,
+    Row {
+        length: 7,
+        registers: 2,
+        kinds: &[Register, Register, Word],
+    },
     // read d a w
-    0x199_04,
+    Row {
+        length: 4,
+        registers: 2,
+        kinds: &[Register, Register, Byte],
+    },
     // write a w v
-    0x419_07,
+    Row {
+        length: 7,
+        registers: 1,
+        kinds: &[Register, Byte, Word],
+    },
     // left d a
-    0x99_03,
+    Row {
+        length: 3,
+        registers: 2,
+        kinds: &[Register, Register],
+    },
     // copy d a b n
-    0x4999_08,
+    Row {
+        length: 8,
+        registers: 3,
+        kinds: &[Register, Register, Register, Word],
+    },
     // fill d a v n
-    0x4199_08,
+    Row {
+        length: 8,
+        registers: 2,
+        kinds: &[Register, Register, Byte, Word],
+    },
     // lock a
-    0x9_02,
+    Row {
+        length: 2,
+        registers: 1,
+        kinds: &[Register],
+    },
     // unlock a
-    0x9_02,
+    Row {
+        length: 2,
+        registers: 1,
+        kinds: &[Register],
+    },
     // again d k
-    0x29_04,
+    Row {
+        length: 4,
+        registers: 1,
+        kinds: &[Register, Half],
+    },
     // set d n
-    0x49_06,
+    Row {
+        length: 6,
+        registers: 1,
+        kinds: &[Register, Word],
+    },
     // grid d a rows columns row column
-    0x111199_07,
+    Row {
+        length: 7,
+        registers: 2,
+        kinds: &[Register, Register, Byte, Byte, Byte, Byte],
+    },
 ];
 
-// The row of an operation, 0 where the table has no such operation.
-pub fn row_of(op: u8) -> u32
-    ensures { result ≡ row_of op }
+// The byte that names an operation in a record.
+pub fn byte_of(operation: Operation) -> u8
+    ensures { result ≡ number_of operation }
 {
-    let row = index(op);
-    if row < OPERATIONS.len() {
-        OPERATIONS[row]
-    } else {
-        0
-    }
+    operation as u8
 }
 
-// The bytes that a field takes.
-pub fn size_of(kind: u32) -> usize
-    ensures { result ≡ size_at kind }
+// The row of an operation.
+pub fn row_of(operation: Operation) -> Row
+    ensures length { result.length ≡ length_of (number_of operation) }
+    ensures registers { result.registers ≡ registers_in (kinds_of (number_of operation)) }
+    ensures kinds { result.kinds.now ≡ kinds_of (number_of operation) }
 {
-    (kind % 8) as usize
-}
-
-// Whether v is a register past the last.
-pub fn is_high(kind: u32, v: u32) -> bool
-    ensures { result ≡ high_at kind v }
-{
-    if kind == REGISTER {
-        REGISTERS <= v
-    } else {
-        false
-    }
+    OPERATIONS[usize::from(byte_of(operation)) - 1]
 }

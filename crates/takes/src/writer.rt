@@ -1,185 +1,125 @@
 // The writer: a file's head, a record, and an accepted file anew.
-ghost use Rattle.std.specs.Prelude.{◌≡◌, ◌+◌, ◌≤◌, true, length};
+ghost use Rattle.std.specs.Prelude.{◌≡◌, ◌+◌, ◌≤◌, length};
 ghost use Rattle.common.specs.Bytes.{over};
-ghost use Rattle.takes.specs.Operations.{known, kinds_of, sizes};
+ghost use Rattle.heap.specs.OperationNumbers.{number_of};
+ghost use Rattle.takes.specs.Operations.{sizes};
 ghost use Rattle.takes.specs.Reading.{high_register};
 ghost use Rattle.takes.specs.Records.{operation, fields};
-ghost use Rattle.takes.specs.Inner.{most_fields, digits, padded};
-ghost use Rattle.takes.specs.Writing.{write_outcome, write_head, write_record, rewrite_file, value_bytes};
+ghost use Rattle.takes.specs.Inner.{most_fields, padded};
+ghost use Rattle.takes.specs.Writing.{write_outcome, written_of, write_head, write_record, rewrite_file, value_bytes};
 
-use crate::files::judge;
-use crate::table::{is_high, row_of, size_of};
-use crate::{HEAD, Record, Written, unchecked};
-use blocks::{LARGEST_ARENA, SMALLEST_ARENA};
+use crate::files::{is_arena_order, judge};
+use crate::table::{Kind, byte_of, row_of};
+use crate::unchecked::Accepted;
+use crate::{HEAD, Record};
+use common::Refusal;
+use heap::operations::Operation;
+use heap::operations::Operation::{
+    Again, Copy, Fill, Get, Give, Grid, Left, Lock, Read, Set, Step, Unlock, Write,
+};
 
 // The most fields that a record has.
 const FIELDS: usize = 6;
 
-// A record's operation and the values of its fields, 0 where it has no further one.
-#[derive(Clone, Copy)]
-struct FieldValues {
-    op: u8,
-    values: [u32; FIELDS],
-}
-
-fn field_values(op: u8, values: [u32; FIELDS]) -> FieldValues
-    ensures { (result.op ≡ op) × (result.values ≡ values) }
-{
-    FieldValues { op, values }
-}
-
-fn values_of(r: Record) -> FieldValues
-    ensures { (result.op ≡ operation r) × (result.values ≡ padded (fields r)) }
+// A record taken apart: its operation, and the values of its fields, 0 where it has no further one.
+fn parts_of(r: Record) -> (Operation, [u32; FIELDS])
+    ensures { (number_of result.0 ≡ operation r) × (result.1 ≡ padded (fields r)) }
 {
     match r {
-        Record::Get(d, n) => field_values(1, [d as u32, n, 0, 0, 0, 0]),
-        Record::Give(a) => field_values(2, [a as u32, 0, 0, 0, 0, 0]),
-        Record::Step(d, a, i) => field_values(3, [d as u32, a as u32, i, 0, 0, 0]),
-        Record::Read(d, a, w) => field_values(4, [d as u32, a as u32, w as u32, 0, 0, 0]),
-        Record::Write(a, w, v) => field_values(5, [a as u32, w as u32, v, 0, 0, 0]),
-        Record::Left(d, a) => field_values(6, [d as u32, a as u32, 0, 0, 0, 0]),
-        Record::Copy(d, a, b, n) => field_values(7, [d as u32, a as u32, b as u32, n, 0, 0]),
-        Record::Fill(d, a, v, n) => field_values(8, [d as u32, a as u32, v as u32, n, 0, 0]),
-        Record::Lock(a) => field_values(9, [a as u32, 0, 0, 0, 0, 0]),
-        Record::Unlock(a) => field_values(10, [a as u32, 0, 0, 0, 0, 0]),
-        Record::Again(d, k) => field_values(11, [d as u32, k as u32, 0, 0, 0, 0]),
-        Record::Set(d, n) => field_values(12, [d as u32, n, 0, 0, 0, 0]),
-        Record::Grid(d, a, rows, columns, row, column) => field_values(
-            13,
-            [
-                d as u32,
-                a as u32,
-                rows as u32,
-                columns as u32,
-                row as u32,
-                column as u32,
-            ],
-        ),
+        Record::Get(d, n) => (Get, [u32::from(d), n, 0, 0, 0, 0]),
+        Record::Give(a) => (Give, [u32::from(a), 0, 0, 0, 0, 0]),
+        Record::Step(d, a, i) => (Step, [u32::from(d), u32::from(a), i, 0, 0, 0]),
+        Record::Read(d, a, w) => (Read, [u32::from(d), u32::from(a), u32::from(w), 0, 0, 0]),
+        Record::Write(a, w, v) => (Write, [u32::from(a), u32::from(w), v, 0, 0, 0]),
+        Record::Left(d, a) => (Left, [u32::from(d), u32::from(a), 0, 0, 0, 0]),
+        Record::Copy(d, a, b, n) => (Copy, [u32::from(d), u32::from(a), u32::from(b), n, 0, 0]),
+        Record::Fill(d, a, v, n) => (Fill, [u32::from(d), u32::from(a), u32::from(v), n, 0, 0]),
+        Record::Lock(a) => (Lock, [u32::from(a), 0, 0, 0, 0, 0]),
+        Record::Unlock(a) => (Unlock, [u32::from(a), 0, 0, 0, 0, 0]),
+        Record::Again(d, k) => (Again, [u32::from(d), u32::from(k), 0, 0, 0, 0]),
+        Record::Set(d, n) => (Set, [u32::from(d), n, 0, 0, 0, 0]),
+        Record::Grid(d, a, rows, columns, row, column) => {
+            (Grid, [d, a, rows, columns, row, column].map(u32::from))
+        }
     }
 }
 
 // Whether a record to be written has a register past the last.
-fn high_in_values(p: FieldValues, kinds: u32) -> bool
-    requires listed { (known p.op ≡ true) × (length p.values ≡ most_fields) }
-    requires coded { kinds ≡ digits (kinds_of p.op) }
-    ensures { result ≡ high_register (kinds_of p.op) p.values }
+fn high_in_values(values: &[u32; FIELDS], kinds: &[Kind]) -> bool
+    requires { length kinds.now ≤ most_fields }
+    ensures { result ≡ high_register kinds.now values.now }
 {
-    let mut left = kinds;
-    let mut k = 0usize;
-    while left != 0 {
-        let v = p.values[k];
-        if is_high(left % 16, v) {
+    for (kind, v) in kinds.iter().zip(values) {
+        if kind.is_high(*v) {
             return true;
         }
-        left = left / 16;
-        k += 1;
     }
     false
 }
 
 // Stores the fields of a record, behind its length byte and its operation.
-fn put_fields(out: &mut [u8], p: FieldValues, kinds: u32)
-    requires listed { (known p.op ≡ true) × (length p.values ≡ most_fields) }
-    requires coded { kinds ≡ digits (kinds_of p.op) }
-    requires inside { 2 + sizes (kinds_of p.op) ≤ length out.old }
-    ensures { out.new ≡ over out.old 2 (value_bytes (kinds_of p.op) p.values) }
+fn put_fields(out: &mut [u8], values: &[u32; FIELDS], kinds: &[Kind])
+    requires { (length kinds.now ≤ most_fields) × (2 + sizes kinds.now ≤ length out.old) }
+    ensures { out.new ≡ over out.old 2 (value_bytes kinds.now values.now) }
 {
-    let mut left = kinds;
     let mut at = 2usize;
-    let mut k = 0usize;
-    while left != 0 {
-        let size = size_of(left % 16);
-        let v = p.values[k];
-        common::write_number(out, at, size, v);
+    for (kind, v) in kinds.iter().zip(values) {
+        let size = kind.size();
+        common::write_number(out, at, size, *v);
         at += size;
-        left = left / 16;
-        k += 1;
     }
 }
 
-// Stores a file's head at the start of the slice.
-pub fn write_head(out: &mut [u8], m: u32) -> Written
-    ensures { write_outcome result out.new ≡ write_head m out.old }
+// Stores a file's head at the start of the slice, and counts its bytes.
+#[tactic(auto, using(crate::proofs::Heads::two_set), unfolding(crate::specs::Writing::write_head))]
+pub fn write_head(out: &mut [u8], m: u32) -> Result<u32, Refusal>
+    ensures { write_outcome (written_of result) out.new ≡ write_head m out.old }
 {
-    if m < SMALLEST_ARENA {
-        return Written {
-            number: 2,
-            count: 0,
-        };
-    }
-    if LARGEST_ARENA < m {
-        return Written {
-            number: 2,
-            count: 0,
-        };
+    if !is_arena_order(m) {
+        return Err(Refusal::BadSize);
     }
     if out.len() < HEAD {
-        return Written {
-            number: 9,
-            count: 0,
-        };
+        return Err(Refusal::NoRoom);
     }
     out[0] = 1;
     out[1] = m as u8;
-    Written {
-        number: 0,
-        count: HEAD as u32,
-    }
+    Ok(HEAD as u32)
 }
 
-// Stores a record at the start of the slice.
-pub fn write_record(out: &mut [u8], r: Record) -> Written
-    ensures { write_outcome result out.new ≡ write_record r out.old }
+// Stores a record at the start of the slice, and counts its bytes.
+pub fn write_record(out: &mut [u8], r: Record) -> Result<u32, Refusal>
+    ensures { write_outcome (written_of result) out.new ≡ write_record r out.old }
 {
-    let p = values_of(r);
-    let op = p.op;
-    let row = row_of(op);
-    let kinds = row / 256;
-    if high_in_values(p, kinds) {
-        return Written {
-            number: 7,
-            count: 0,
-        };
+    let (operation, values) = parts_of(r);
+    let row = row_of(operation);
+    if high_in_values(&values, row.kinds) {
+        return Err(Refusal::NoRegister);
     }
-    let length = row % 256;
-    let count = length + 1;
-    if out.len() < count as usize {
-        return Written {
-            number: 9,
-            count: 0,
-        };
+    if out.len() <= usize::from(row.length) {
+        return Err(Refusal::NoRoom);
     }
-    out[0] = length as u8;
-    out[1] = op;
-    put_fields(out, p, kinds);
-    Written { number: 0, count }
+    out[0] = row.length;
+    out[1] = byte_of(operation);
+    put_fields(out, &values, row.kinds);
+    Ok(u32::from(row.length) + 1)
 }
 
-// Writes an accepted file anew, record by record, to the start of the slice.
-pub fn rewrite(file: &[u8], out: &mut [u8]) -> Written
-    ensures { write_outcome result out.new ≡ rewrite_file file.now out.old }
+// Writes an accepted file anew, record by record, to the start of the slice, and counts its bytes.
+pub fn rewrite(file: &[u8], out: &mut [u8]) -> Result<u32, Refusal>
+    ensures { write_outcome (written_of result) out.new ≡ rewrite_file file.now out.old }
 {
-    let j = judge(file);
-    let number = j.number;
-    if number != 0 {
-        return Written { number, count: 0 };
-    }
+    let judged = judge(file)?;
     if out.len() < file.len() {
-        return Written {
-            number: 9,
-            count: 0,
-        };
+        return Err(Refusal::NoRoom);
     }
-    let size = j.size;
-    write_head(out, size);
+    // Neither the head nor a record of an accepted file is refused, and there is room for each.
+    write_head(out, judged.size).unwrap();
     let mut at = HEAD;
+    // As in `judge`, the stride is each record's own.
     while at < file.len() {
-        let record = unchecked::read(file, at);
-        write_record(&mut out[at..], record);
-        at = unchecked::next(file, at);
+        let record = Accepted { file, at };
+        write_record(&mut out[at..], record.read()).unwrap();
+        at = record.next();
     }
-    Written {
-        number: 0,
-        count: at as u32,
-    }
+    Ok(at as u32)
 }

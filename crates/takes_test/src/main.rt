@@ -2,22 +2,9 @@
 // before its lines.
 #![tactic(auto)]
 
-use std::alloc::{AllocError, Global};
 use std::io::{BufWriter, Write};
 use std::rt::Files;
 use std::{fs, io};
-
-fn digit(n: usize) -> u8 {
-    (48 + n % 10) as u8
-}
-
-// A take's number as three digits.
-fn name_of(alloc: Global, n: usize) -> Result<String, AllocError> {
-    let hundreds = char::from(digit(n / 100));
-    let tens = char::from(digit(n / 10));
-    let ones = char::from(digit(n));
-    format!(in alloc; "{hundreds}{tens}{ones}")
-}
 
 // Whether there is a take of that number.
 fn play_named<W: Write>(
@@ -26,12 +13,11 @@ fn play_named<W: Write>(
     n: usize,
 ) -> io::Result<bool> {
     let alloc = rt.alloc();
-    let name = name_of(alloc, n)?;
-    let path = format!(in alloc; "{name}.take")?;
+    let path = format!(in alloc; "{n:03}.take")?;
     let Ok(file) = fs::open(rt, path) else {
         return Ok(false);
     };
-    writeln!(out, "{name}")?;
+    writeln!(out, "{n:03}")?;
     printing::play_from(alloc, out, file)?;
     Ok(true)
 }

@@ -18,6 +18,7 @@ pub mod Entries
 pub mod Starts
 pub mod Laying
 pub mod Notes
+pub mod Planning
 pub mod Staying
 pub mod Filling
 pub mod Examples

@@ -10,11 +10,10 @@ use native.Mathlib.Omega.{arith}
 use borrow.Author.Tests.{le-leb, lt-leb, lt-ltb, leb-true}
 use lib.IntN.{ℤ, pos}
 use lib.Pow.{pow_pos, pow_mono}
-use Rattle.blocks.specs.Blocks.{base, Block}
+use Rattle.blocks.specs.Blocks.{base, Referent, Missing, Found}
+use Rattle.blocks.specs.declared.Block.{Block}
 use Rattle.blocks.specs.Pointers.{mark_bit, marked, address, sought, referent_at, pointer_referent}
 use Rattle.blocks.specs.Sets.{referent_of}
-use Rattle.blocks.specs.declared.Referent.{Referent}
-use Rattle.blocks.specs.declared.Referent.TheVariants.{Missing, Found}
 use Rattle.common.proofs.Booleans.{and_both}
 use Rattle.blocks.proofs.Referents.{sought-plain, sought-up, sought-down, sought-negative}
 use Rattle.blocks.proofs.Sets.{BlockSet, held_low, held_high, found-member, member-found}

@@ -9,13 +9,11 @@ use native.Mathlib.Omega.{arith}
 use borrow.Author.Tests.{eq-eqb, ne_eqb, eqb-true}
 use lib.ListN.{length, get_or}
 use lib.Pow.{pow_pos, pow_mono}
-use Rattle.blocks.specs.Blocks.{base, Block}
-use Rattle.blocks.specs.Placing.{range_start, free_range, place_in}
+use Rattle.blocks.specs.Blocks.{base, Referent}
+use Rattle.blocks.specs.declared.Block.{Block}
+use Rattle.blocks.specs.Placing.{range_start, free_range, place_in, Place, At, Nothing}
 use Rattle.blocks.specs.Sets.{Pair, ranges, PairSet, referent_of, locked_of, table_of}
 use Rattle.blocks.specs.Tables.{lock_bit, free_in}
-use Rattle.blocks.specs.declared.Referent.{Referent}
-use Rattle.blocks.specs.declared.Place.{Place}
-use Rattle.blocks.specs.declared.Place.TheVariants.{At, Nothing}
 use Rattle.blocks.proofs.Floors.{pow-split}
 use Rattle.blocks.proofs.Halves.{sizes}
 use Rattle.blocks.proofs.Places.{range_inside, place-sound, place-complete}

@@ -1,6 +1,6 @@
 //! Definitions and lemmas that nobody cites. Cited is
 //! - what another definition of its file mentions,
-//! - what a file imports from its module and uses, or names by its whole path,
+//! - what a file imports from its module and uses, or names by its whole path, in code by a path as `crate::proofs::Rows::listed`,
 //! - a record's field or a data type's case that any other definition mentions, since these come without an import,
 //! - what docs/CLAIMS.md names, and what the check itself asks of a function's proof: the answers to goals, the
 //!   invariants and measures, each under its goal's name, and `f_spec` of a proof by hand.
@@ -82,6 +82,9 @@ impl<'a> Declared<'a> {
                 cited.extend(names.map(|(module, rest)| (module.to_string(), rest.split('.').next().unwrap_or(rest))));
             }
         }
+        if self.source.path.ends_with(".rt") {
+            cited.extend(self.source.lines.iter().flat_map(|line| in_attributes(self.source.path, line.code)));
+        }
         cited
     }
 
@@ -97,6 +100,16 @@ impl<'a> Declared<'a> {
         let is_goal = modules.any(|goals| said == format!("{}.{name}", goals.names[0].here));
         is_goal || self.source.path.ends_with("/Proof.antt") && name.ends_with("_spec")
     }
+}
+
+/// The definitions and lemmas that a line of code hands to the check's tactics, as `using(crate::proofs::Rows::listed)` does.
+fn in_attributes<'a>(path: &str, code: &'a str) -> Vec<(String, &'a str)> {
+    let own = path.trim_start_matches("crates/").split('/').next().unwrap_or_default();
+    let words = code.split(|c: char| c.is_whitespace() || "(),[]".contains(c));
+    let paths = words.filter(|word| ["::proofs::", "::specs::"].iter().any(|folder| word.contains(folder)));
+    let named = paths.filter_map(|word| word.rsplit_once("::"));
+    let module = |path: &str| path.replacen("crate::", &format!("{own}::"), 1).replace("::", ".");
+    named.map(|(path, name)| (format!("Rattle.{}", module(path)), name)).collect()
 }
 
 fn declared<'a>(path: &'a str, text: &'a str) -> Declared<'a> {
@@ -190,6 +203,16 @@ module _ (a : A) where
         assert_eq!(check("Invariants", invariants), expected);
         assert!(check("Proof", "pub f_spec : A\nf_spec = tt\n").is_empty());
         assert_eq!(check("Answers", "pub f_spec : A\n"), ["crates/a/proofs/f/Answers.antt:1: nobody cites f_spec"]);
+    }
+
+    #[test]
+    fn what_code_hands_to_the_tactics_is_cited() {
+        let lemmas = "pub listed : A\nlisted = refl\npub other : A\nother = refl\n";
+        let cited_by = |path: &str, code: &str| found(uncited, &[("crates/a/proofs/L.antt", lemmas), (path, code)]);
+        let only_other = ["crates/a/proofs/L.antt:3: nobody cites other"];
+        assert_eq!(cited_by("crates/a/src/lib.rt", "#[tactic(auto, using(crate::proofs::L::listed))]\n"), only_other);
+        assert_eq!(cited_by("crates/b/src/lib.rt", "#[tactic(auto, using(a::proofs::L::listed))]\n"), only_other);
+        assert_eq!(cited_by("crates/b/src/lib.rt", "#[tactic(auto, using(crate::proofs::L::listed))]\n").len(), 2);
     }
 
     #[test]

@@ -1,8 +1,7 @@
 -- One law for each way: below the arena, past the table, and a slot, whose entry says it.
-use Rattle.std.proofs.Common.{◌≡◌, ℕ, ◌-◌, get_or, sym, ap, ◌∙◌, arith, le-leb}
+use Rattle.std.proofs.Common.{◌≡◌, ℕ, get_or, sym, ap, ◌∙◌, le-leb}
 use borrow.Author.Tests.{lt-leb}
 use lib.ListN.{get_or-eq_default}
-use lib.Pow.{shr_le}
 use Rattle.blocks.specs.Blocks.{base}
 use Rattle.blocks.specs.Tables.{entry_locked, locked_in}
 use Rattle.blocks.proofs.Slots.{slot_of}
@@ -12,9 +11,6 @@ use Rattle.blocks.proofs.is_locked.Goals.{Else-q-lt-BASE}
 pub returns-then-q-lt-BASE : goal.returns-then-q-lt-BASE
 unfolding locked_in
 returns-then-q-lt-BASE c = rw (lt-leb base _ c.if-q-lt-BASE.true)
-
-pub overflow_cast-i : goal.overflow_cast-i
-overflow_cast-i c = let a = c.args in omega (arith, shr_le (a.q - base) a.t)
 
 -- where the table ends before the slot, and where it has it
 module _ (c : Else-q-lt-BASE) where
@@ -30,4 +26,4 @@ returns-then-table-i c =
     sym (by-entry (goal.at.returns-then-table-i c).Else-q-lt-BASE ∙ ap entry_locked (get_or-eq_default c.args.table.now 0 c.if-table-i.true))
 
 pub returns : goal.returns
-returns c = ap entry_locked c.wide.ensures ∙ sym (by-entry (goal.at.returns c).Else-q-lt-BASE)
+returns c = ap entry_locked c.from.ensures ∙ sym (by-entry (goal.at.returns c).Else-q-lt-BASE)

@@ -12,4 +12,4 @@ other-bits x l = go (leb lock_bit x) refl
     go false h = let high = leb-false lock_bit x h in omega arith
 
 pub returns : goal.returns
-returns c = ap (λ (x : ℕ). x % 128) c.wide.ensures ∙ other-bits _ (omega arith)
+returns c = ap (λ (x : ℕ). x % 128) c.from.ensures ∙ other-bits _ (omega arith)

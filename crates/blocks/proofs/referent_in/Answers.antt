@@ -2,9 +2,8 @@
 -- block. In an undamaged table it is an order of the arena, so that the block's start fits in 32 bits.
 use Rattle.std.proofs.Common.{◌≡◌, ℕ, ◌+◌, ◌-◌, ◌*◌, ◌/◌, get_or, sym, refl, ap, ◌∙◌, div-mul-le_self, arith, pow_pos}
 use lib.Pow.{shr_le}
-use Rattle.blocks.specs.Blocks.{base, floor}
+use Rattle.blocks.specs.Blocks.{base, floor, Found}
 use Rattle.blocks.specs.Tables.{block_round, referent_in}
-use Rattle.blocks.specs.declared.Referent.TheVariants.{Found}
 use Rattle.blocks.proofs.Referents.{referent-below, referent-past, referent-entry, round-some}
 use Rattle.blocks.proofs.Slots.{slot_of}
 use Rattle.blocks.proofs.Tables.{undamaged-whole}

@@ -1,23 +1,19 @@
 -- By what left answers for the same p: refused, the part is empty; accepted, it starts at p, which lies above the base (`shown-inside`), with left's length.
-use native.Mathlib.Omega.{arith}
+use Rattle.std.proofs.Common.{Ok, Err, refl, arith}
+use Rattle.heap.specs.Answers.{answer_of}
 use Rattle.heap.proofs.Showing.{shown-inside}
+use Rattle.common.proofs.Numbers.{some-number}
 use Rattle.cabi.proofs.Parts.{refused-part, accepted-part}
 use Rattle.cabi.proofs.tulivombe_show.Goals as goal
 
-pub returns-then-number-ne0 : goal.returns-then-number-ne0
-returns-then-number-ne0 c =
-    let a = c.args in
-    let r = c.left-left in
-    refused-part a.p a.arena.now a.table.now r.result r.ensures c.if-number-ne0.true
-
 pub overflow_sub-result : goal.overflow_sub-result
 overflow_sub-result c =
-    let a = c.args in
-    let r = c.left-left in
-    omega (arith, (shown-inside a.p a.arena.now a.table.now r.result r.ensures c.if-number-ne0.false).0)
+    let a = c.args in omega (arith, (shown-inside a.p a.arena.now a.table.now (answer_of (Ok c.in-Ok.length)) c.in-Ok.ensures refl).0)
 
-pub returns : goal.returns
-returns c =
+pub returns-in-Ok : goal.returns-in-Ok
+returns-in-Ok c = let a = c.args in accepted-part a.p a.arena.now a.table.now (answer_of (Ok c.in-Ok.length)) c.in-Ok.ensures refl
+
+pub returns-in-Err : goal.returns-in-Err
+returns-in-Err c =
     let a = c.args in
-    let r = c.left-left in
-    accepted-part a.p a.arena.now a.table.now r.result r.ensures c.if-number-ne0.false
+    rw c.from.ensures (refused-part a.p a.arena.now a.table.now (answer_of (Err c.in-Err.reason)) c.in-Err.ensures (some-number c.in-Err.reason))

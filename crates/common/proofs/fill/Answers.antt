@@ -1,26 +1,13 @@
-use mathlib.Core.Path.{◌≡◌, refl, sym, ◌∙◌}
-use native.Mathlib.Omega.{arith}
-use native.Mathlib.Nat.{add-zero, sub-zero}
-use lib.ListN.{length, length-set}
-use Rattle.common.proofs.Loops.{fill-turn, fill_end}
+use Rattle.std.proofs.Common.{◌≡◌, ◌-◌, ◌+◌, ◌∙◌, refl, sym, arith, take, drop, length, replicate, length-take, length-drop, take_all}
+use Rattle.common.proofs.Bytes.{put_over}
 use Rattle.common.proofs.fill.Goals as goal
-
-pub loop-i-init : goal.loop-i-init
-loop-i-init c = let a = c.args in (omega arith, rw (add-zero, sub-zero), refl)
-
-pub bounds-s-at : goal.bounds-s-at
-bounds-s-at c = omega (arith, c.loop-i.invariant.2, c.requires)
-
-pub loop-i-preserved : goal.loop-i-preserved
-loop-i-preserved c =
-    let a = c.args in
-    let q : length c.loop-i.s ≡ length a.s.now = c.loop-i.invariant.2 in
-    (omega arith, sym (fill-turn c.loop-i.s a.at a.n a.v c.loop-i.i (omega arith) (omega arith)) ∙ c.loop-i.invariant.1, simp length-set q)
-
-pub shape_of-s : goal.shape_of-s
-shape_of-s c = c.loop-i.invariant.2
 
 pub returns : goal.returns
 returns c =
     let a = c.args in
-    sym (fill_end c.loop-i.s a.at a.n a.v c.loop-i.i (omega arith)) ∙ c.loop-i.invariant.1
+    let i = c.loop-x.x-index in
+    let xs = c.loop-x.x-items in
+    let part : length (take (a.at + a.n - a.at) (drop a.at a.s.now)) ≡ a.n = simp (length-take, length-drop) (omega arith) in
+    let end : i ≡ a.n = omega arith in
+    let all : xs ≡ replicate i a.v = sym (take_all i xs (omega arith)) ∙ c.loop-x.invariant in
+    put_over a.s.now xs a.at a.n (c.loop-x.auto.x-items ∙ part) ∙ rw (all, end) refl

@@ -1,12 +1,7 @@
 -- The invariant: storing the k bytes that are left of `rest` gives what storing all of v gives. Each turn stores the lowest of them (`write-turn`).
-use Prim.Native.Nat.{◌≤◌}
 use mathlib.Core.Path.{◌≡◌}
-use lib.ListN.{length}
 use Rattle.common.specs.Bytes.{over, bytes_of}
 use Rattle.common.proofs.write_number.Given as goal
 
 abbrev pub invariant-loop-k : goal.invariant-loop-k
-invariant-loop-k l = (l.k ≤ l.w) × (over l.s l.at (bytes_of l.k l.rest) ≡ over l.initial.s l.at (bytes_of l.w l.v)) × (length l.s ≡ length l.initial.s)
-
-abbrev pub decreases-loop-k : goal.decreases-loop-k
-decreases-loop-k l = l.k
+invariant-loop-k l = over l.s l.at (bytes_of l.k l.rest) ≡ over l.initial.s l.at (bytes_of l.w l.v)

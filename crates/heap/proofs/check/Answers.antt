@@ -1,51 +1,48 @@
--- The check is judged as left is (`address-left`), test by test: refused, its number is the first of its own list (`check-refused`), and else it is
--- `unchecked::check` (`judged-check`).
-use Rattle.std.proofs.Common.{◌≡◌, ℕ, Bool, true, false, cond, eqb, sym, refl, ◌∙◌, arith, eq-eqb, ne_eqb}
+-- The check is judged as left is, test by test (`sizes-refused`, `judged-refused`, `judged-ready`): refused, it says what left does (`check-refused`), and else
+-- it is `unchecked::check`, in slots of the public calls' order (`check-ordered`).
+use Rattle.std.proofs.Common.{◌≡◌, ℕ, List, [], ◌∷◌, sym, refl, ◌∙◌, arith, rules, ne_eqb}
+use Rattle.common.specs.Refusals.{◌when◌, first}
+use Rattle.blocks.specs.Tables.{damaged_by}
 use Rattle.heap.specs.Views.{slot_order}
 use Rattle.heap.specs.Rules.{argument_rules}
 use Rattle.heap.specs.Inner.{before_call}
 use Rattle.heap.specs.declared.Call.TheVariants.{Left}
-use Rattle.heap.proofs.Judging.{order-slots, Judged, judge, check-refused, judged-check}
+use Rattle.heap.proofs.Judging.{Sized, order-found, order-missing, sizes-refused, judged-refused, judged-ready, check-refused, check-ordered}
 use Rattle.heap.proofs.check.Goals as goal
-use Rattle.heap.proofs.check.Goals.{After-damaged, After-order_of-m}
+use Rattle.heap.proofs.check.Goals.{In_ok-m}
 
--- once the order is known
-module _ (c : After-order_of-m) where
-  abbrev order : ℕ
-  order = c.order_of-m.result
+-- where there is an order
+module _ (c : In_ok-m) where
+  sized : Sized slot_order c.args.arena.now c.args.table.now c.in_ok-m.m
+  sized = order-found slot_order _ _ (sym c.in_ok-m.ensures.ok_part ∙ c.order_of.ensures)
 
-  -- left's arguments are not refused, so k is the call's number
-  judged : (k : ℕ) → k ≡ before_call slot_order order 0 c.args.table.now
-      → Judged (Left c.args.p) c.args.arena.now c.args.table.now k order
-  unfolding argument_rules
-  judged k h = judge c.order_of-m.ensures refl h
-
--- once the table is judged
-module _ (c : After-damaged) where
-  some-order : eqb c.order_of-m.result 0 ≡ false
-  some-order = ne_eqb c.order_of-m.result 0 c.if-m-eq0.false
-
-  by-damage : (b : Bool) → c.damaged.result ≡ b → let a = c.args in
-      Judged (Left a.p) a.arena.now a.table.now (cond b 20 0) c.order_of-m.result
-  unfolding argument_rules
-  by-damage b h =
-      let k : cond b 20 0 ≡ before_call slot_order c.order_of-m.result 0 c.args.table.now = rw (some-order, sym c.damaged.ensures ∙ h) in
-      judge c.order_of-m.ensures refl k
-
-pub returns-then-m-eq0 : goal.returns-then-m-eq0
-returns-then-m-eq0 c =
-    let eight = judged (goal.at.returns-then-m-eq0 c).After-order_of-m 8 (rw (eq-eqb c.order_of-m.result 0 c.if-m-eq0.true)) in
-    check-refused c.args.i eight (λ z. omega arith) c.refused.ensures
+pub returns-in_err-m : goal.returns-in_err-m
+returns-in_err-m c =
+    let a = c.args in
+    let misfit = order-missing slot_order _ _ (sym c.in_err-m.ensures.ok_part ∙ c.order_of.ensures) in
+    let h = check-refused a.p a.i (λ z. omega arith) (sizes-refused (Left a.p) _ _ misfit) in
+    search rules
 
 pub damaged-requires : goal.damaged-requires
-damaged-requires c = order-slots _ _ c.order_of-m.ensures c.if-m-eq0.false
+damaged-requires c = let s = sized c in (omega arith, omega (arith, s.low), s.high, s.slots)
+
+-- left's arguments are not refused, so what is said of the table is its judging
+judged : (p : ℕ) {a tab : List ℕ} {m k : ℕ} → Sized slot_order a tab m → k ≡ first (20 when damaged_by slot_order m tab ∷ [])
+    → k ≡ before_call slot_order m (first (argument_rules m (Left p))) tab
+unfolding argument_rules
+judged p {m = m} s h = rw (ne_eqb m 0 (λ z. omega (arith, s.low))) h
 
 pub returns-then-damaged : goal.returns-then-damaged
 returns-then-damaged c =
-    check-refused c.args.i (by-damage (goal.at.returns-then-damaged c).After-damaged true c.if-damaged.true) (λ z. omega arith) c.refused-then-damaged.ensures
+    let a = c.args in
+    let s = sized (goal.at.returns-then-damaged c).In_ok-m in
+    check-refused a.p a.i (λ z. omega arith)
+    (judged-refused (Left a.p) s (judged a.p s (rw (sym c.damaged.ensures ∙ c.if-damaged.true))) (λ z. omega arith))
 
 pub check-requires : goal.check-requires
-check-requires c = ((by-damage (goal.at.check-requires c).After-damaged false c.if-damaged.false).ready refl).sound
+check-requires c =
+    let s = sized (goal.at.check-requires c).In_ok-m in
+    (judged-ready (Left c.args.p) s (judged c.args.p s (rw (sym c.damaged.ensures ∙ c.if-damaged.false))) refl).ready.sound
 
 pub returns : goal.returns
-returns c = judged-check c.args.i (by-damage (goal.at.returns c).After-damaged false c.if-damaged.false) refl c.check.ensures
+returns c = c.check.ensures ∙ check-ordered _ _ (sized (goal.at.returns c).In_ok-m)

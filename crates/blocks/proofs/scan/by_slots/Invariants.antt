@@ -1,22 +1,21 @@
--- Both loops are left by `break 'scan` at the first damage.
--- The outer loop's invariant: every slot passed is good. The inner loop's: every slot of the range that was passed has the entry x, and pairs were passed.
+-- Of the outer loop: every slot passed is good. Of the inner one: every slot of the range that was passed has the entry x, and pairs were passed.
 -- The measures are what is left of the table and of the range.
-use Rattle.std.proofs.Common.{◌≡◌, ℕ, ◌+◌, ◌-◌, ◌%◌, ◌^◌, ◌<◌, ◌≤◌, false, length, get_or}
-use Rattle.blocks.specs.Blocks.{floor}
+use Rattle.std.proofs.Common.{◌≡◌, ℕ, ◌-◌, ◌%◌, ◌<◌, ◌≤◌, length, get_or}
 use Rattle.blocks.proofs.Tables.{Good}
 use Rattle.blocks.proofs.scan.by_slots.Given as goal
 
-abbrev pub invariant-block : goal.invariant-block
-invariant-block l =
-    (l.found ≡ false) × (l.from ≡ floor (l.e - l.t) l.i) × (l.to ≡ floor (l.e - l.t) l.i + 2 ^ (l.e - l.t)) × (l.to ≤ length l.table) × (l.from ≤ l.k)
-    × (l.k ≤ l.to)
-    × ((l.k - l.from) % 2 ≡ 0) × ((j : ℕ) → j < l.k → l.from ≤ j → get_or l.table j 0 ≡ get_or l.table l.i 0)
+abbrev pub invariant-loop-k : goal.invariant-loop-k
+invariant-loop-k l = record {
+  in_range : (l.from ≤ l.k) × (l.k ≤ l.to);
+  pairs : (l.k - l.from) % 2 ≡ 0;
+  same : (j : ℕ) → j < l.k → l.from ≤ j → get_or l.table j 0 ≡ l.x;
+}
 
-abbrev pub decreases-block : goal.decreases-block
-decreases-block l = l.to - l.k
+abbrev pub decreases-loop-k : goal.decreases-loop-k
+decreases-loop-k l = l.to - l.k
 
-abbrev pub invariant-scan : goal.invariant-scan
-invariant-scan l = (l.found ≡ false) × (l.i ≤ length l.table) × ((j : ℕ) → j < l.i → Good l.t l.m l.table j)
+abbrev pub invariant-loop-i : goal.invariant-loop-i
+invariant-loop-i l = record { in_range : l.i ≤ length l.table; good : (j : ℕ) → j < l.i → Good l.t l.m l.table j }
 
-abbrev pub decreases-scan : goal.decreases-scan
-decreases-scan l = length l.table - l.i
+abbrev pub decreases-loop-i : goal.decreases-loop-i
+decreases-loop-i l = length l.table - l.i

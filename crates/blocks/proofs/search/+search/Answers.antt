@@ -1,12 +1,13 @@
 -- The measure is k, the order; an answer is given its value first, as μ. Each return has its law in `Searches`, for whatever table the part is of.
 use Rattle.std.proofs.Common.{◌≡◌, ℕ, ◌+◌, ◌-◌, ◌*◌, ◌/◌, ◌%◌, ◌^◌, ◌<◌, true, false, ◌&&◌, eqb, leb, List, length, get_or, take, drop, ◌∙◌}
-use Rattle.std.proofs.Common.{sym, ap, subst, arith, length-drop, length-take, get_or-drop, get_or-take, ltb-true, eq-eqb, ne_eqb}
+use Rattle.std.proofs.Common.{sym, ap, ap₂, min, subst, arith, length-drop, length-take, get_or-drop, get_or-take, ltb-true, eq-eqb, ne_eqb}
+use Rattle.std.proofs.lemmas.Grind.{common_steps}
 use Rattle.blocks.specs.Tables.{free_in}
 use Rattle.blocks.specs.Placing.{all_free, place_in}
 use Rattle.blocks.specs.Inner.{as_free, PartOf, key_of}
 use Rattle.common.proofs.Booleans.{and_right}
 use Rattle.blocks.proofs.Rows.{whole-rows}
-use Rattle.blocks.proofs.Searches.{none_free, all-open, at-order, Halved, two-halves, first-half, left-half, right-half}
+use Rattle.blocks.proofs.Searches.{none_free, all-open, at-order, Halved, two-halves, first-half, better-half}
 use Rattle.blocks.proofs.Searches.{left-part, right-part, in_block, uniform-free, uniform-taken, not-uniform}
 use Rattle.blocks.proofs.search.+search.Goals as goal
 use Rattle.blocks.proofs.search.+search.Goals.{After-order_in-x, After-uniform, Else-k-e, After-search-left, After-search-right}
@@ -63,7 +64,7 @@ module _ (μ : ℕ) (c : Else-k-e μ) where
 
 -- the left half, as a part of the same table, and its answer
 left_is : (μ : ℕ) (c : After-search-left μ) → let a = c.args in a.t < a.k → length a.part.now / 2 ≡ 2 ^ (a.k - 1 - a.t)
-    → (s : List ℕ) → PartOf a.t s a.from a.k a.part.now → c.search-left.result ≡ key_of (place_in (free_in s) a.t a.from (a.k - 1) a.e)
+    → (s : List ℕ) → PartOf a.t s a.from a.k a.part.now → c.search-left.result.0 ≡ key_of (place_in (free_in s) a.t a.from (a.k - 1) a.e)
 left_is μ c above half_is s r =
     let p = c.args.part.now in
     let n = length p / 2 in
@@ -72,7 +73,7 @@ left_is μ c above half_is s r =
 -- and the right one
 right_is : (μ : ℕ) (c : After-search-right μ) → let a = c.args in a.t < a.k → length a.part.now / 2 ≡ 2 ^ (a.k - 1 - a.t)
     → (s : List ℕ) → PartOf a.t s a.from a.k a.part.now
-    → c.search-right.result ≡ key_of (place_in (free_in s) a.t (a.from + 2 ^ (a.k - 1 - a.t)) (a.k - 1) a.e)
+    → c.search-right.result.0 ≡ key_of (place_in (free_in s) a.t (a.from + 2 ^ (a.k - 1 - a.t)) (a.k - 1) a.e)
 right_is μ c above half_is s r =
     let a = c.args in
     let p = a.part.now in
@@ -98,7 +99,7 @@ pub returns-then-x-eq0 : goal.returns-then-x-eq0
 returns-then-x-eq0 μ c s r =
     let a = c.args in
     let free = rw (eq-eqb c.order_in-x.result 0 c.if-x-eq0.true) at (same μ (goal.at.returns-then-x-eq0 μ c).After-uniform c.if-uniform.true) in
-    c.key.ensures ∙ all-open (free_in s) a.t a.from a.k a.e c.requires.1 c.requires.2 (uniform-free r free)
+    c.new.ensures ∙ all-open (free_in s) a.t a.from a.k a.e c.requires.1 c.requires.2 (uniform-free r free)
 
 pub returns-else-x-eq0 : goal.returns-else-x-eq0
 returns-else-x-eq0 μ c s r =
@@ -131,7 +132,7 @@ returns-then-is_exact μ c s r =
     let g = goal.at.returns-then-is_exact μ c in
     let d = g.Else-k-e in
     let l = left_is μ g.After-search-left (above μ d) (half_is μ d) s r in
-    let exact = ltb-true c.search-left.result ((c.args.e + 1) * 65536) (sym c.is_exact.ensures ∙ c.if-is_exact.true) in
+    let exact = ltb-true c.search-left.result.0 ((c.args.e + 1) * 65536) (sym c.is_exact.ensures ∙ c.if-is_exact.true) in
     l ∙ first-half (halved μ d s (mixed μ g.After-uniform c.if-uniform.false s r)) (omega arith)
 
 pub search-right-requires : goal.search-right-requires
@@ -148,18 +149,11 @@ search-right-requires μ c =
       ),
     )
 
-pub returns-then-right-left : goal.returns-then-right-left
-returns-then-right-left μ c s r =
-    let g = goal.at.returns-then-right-left μ c in
+pub returns : goal.returns
+returns μ c s r =
+    let g = goal.at.returns μ c in
     let d = g.Else-k-e in
-    let l = left_is μ g.After-search-left (above μ d) (half_is μ d) s r in
+    let left = left_is μ g.After-search-left (above μ d) (half_is μ d) s r in
     let right = right_is μ g.After-search-right (above μ d) (half_is μ d) s r in
-    right ∙ right-half (halved μ d s (mixed μ g.After-uniform c.if-uniform.false s r)) (omega (arith, c.if-right-left.true))
-
-pub returns-else-right-left : goal.returns-else-right-left
-returns-else-right-left μ c s r =
-    let g = goal.at.returns-else-right-left μ c in
-    let d = g.Else-k-e in
-    let l = left_is μ g.After-search-left (above μ d) (half_is μ d) s r in
-    let right = right_is μ g.After-search-right (above μ d) (half_is μ d) s r in
-    l ∙ left-half (halved μ d s (mixed μ g.After-uniform c.if-uniform.false s r)) (omega (arith, c.if-right-left.false))
+    let is : c.min.result.0 ≡ min c.search-right.result.0 c.search-left.result.0 = grind (arith, common_steps) in
+    is ∙ ap₂ min right left ∙ better-half (halved μ d s (mixed μ g.After-uniform c.if-uniform.false s r))

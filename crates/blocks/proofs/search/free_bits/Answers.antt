@@ -1,65 +1,53 @@
-use Rattle.std.proofs.Common.{◌≡◌, ℕ, ◌+◌, ◌-◌, ◌*◌, ◌^◌, ◌<◌, ◌≤◌, cond, eqb, List, length, get_or, sym, ◌∙◌, zero-add, arith, pow_mono, eq-eqb, ne_eqb}
-use native.Mathlib.Nat.{sub-zero}
+use Rattle.std.proofs.Common.{◌≡◌, ℕ, ◌+◌, ◌-◌, ◌*◌, ◌^◌, ◌<◌, ◌≤◌, Bool, true, false, cond, eqb, List, length, get_or, sym, refl, ap, ◌∙◌, arith, pow_mono}
+use Rattle.std.specs.Int.{from_bool}
+use Rattle.std.specs.Slice.Iter.{iter_rest}
+use Rattle.std.specs.Iterator.Adapters.{rev_source}
 use Rattle.blocks.specs.Tables.{free_in}
 use Rattle.blocks.specs.Inner.{bits_of}
-use Rattle.blocks.proofs.Bits.{bits-before, bits_below}
+use Rattle.blocks.proofs.Bits.{bits-before, bits_below, no_bits}
+use Rattle.blocks.proofs.Chunks.{all-unread, one-less, read-last, unread}
 use Rattle.blocks.proofs.search.free_bits.Goals as goal
+use Rattle.blocks.proofs.search.free_bits.Goals.{After-from}
 
 -- a part of at most 16 slots has bits of as many digits
-small : (p : List ℕ) (i bits : ℕ) → length p ≤ 16 → bits ≡ bits_of (free_in p) (0 + i) (length p - i) → bits < 65536
+small : (p : List ℕ) (i bits : ℕ) → length p ≤ 16 → bits ≡ bits_of (free_in p) i (length p - i) → bits < 65536
 small p i bits l h =
     let top : 2 ^ (length p - i) ≤ 2 ^ 16 = pow_mono {i = length p - i} {j = 16} (omega arith) in
-    omega (arith, bits_below (free_in p) (0 + i) (length p - i))
+    omega (arith, bits_below (free_in p) i (length p - i))
 
-none_left : (p : List ℕ) (i : ℕ) → length p ≤ i → bits_of (free_in p) (0 + i) (length p - i) ≡ 0
-unfolding bits_of
-none_left p i l = let z : length p - i ≡ 0 = omega arith in rw z
+bit : (b : Bool) → from_bool b ≡ cond b 1 0
+bit true = refl
+bit false = refl
 
--- a slot more, in front
-before : (p : List ℕ) (i bits : ℕ) → 0 < i → i ≤ length p → bits ≡ bits_of (free_in p) (0 + i) (length p - i)
-    → cond (eqb (get_or p (i - 1) 0) 0) 1 0 + 2 * bits ≡ bits_of (free_in p) (0 + (i - 1)) (length p - (i - 1))
-before p i bits l h e =
-    let slot : get_or p (0 + (i - 1)) 0 ≡ get_or p (i - 1) 0 = rw zero-add in
-    rw (e, ← slot) (sym (bits-before (free_in p) 0 i (length p) l h))
+-- a slot's bit in front of those behind it
+before : (p : List ℕ) (i bits x b : ℕ) → i < length p → x ≡ get_or p i 0 → b ≡ from_bool (eqb x 0)
+    → bits ≡ bits_of (free_in p) (i + 1) (length p - (i + 1)) → bits * 2 + b ≡ bits_of (free_in p) i (length p - i)
+before p i bits x b l at is h =
+    let first : cond (free_in p i) 1 0 ≡ b = ap (λ (y : ℕ). cond (eqb y 0) 1 0) (sym at) ∙ sym (is ∙ bit (eqb x 0)) in
+    omega (arith, bits-before (free_in p) i (length p) l)
 
-pub loop-i-init : goal.loop-i-init
-loop-i-init c = (omega arith, sym (none_left c.args.part.now _ (omega arith)))
+module _ (c : After-from) where
+  abbrev left : List ℕ
+  left = iter_rest (rev_source c.next.new.self)
 
-pub overflow_sub-i : goal.overflow_sub-i
-overflow_sub-i c = omega arith
+  -- where a slot was read
+  bits : c.loop-x.bits * 2 + c.from.result ≡ bits_of (free_in c.args.part.now) (length left) (length c.args.part.now - length left)
+  bits =
+      let u = c.loop-x.invariant.unread in
+      let steps = c.in-Some.ensures.steps in
+      let one = one-less u left _ steps in
+      before c.args.part.now (length left) _ _ _ (omega (arith, u.in_range)) (read-last u left _ steps) c.from.ensures (rw (← one) c.loop-x.invariant.bits)
+
+pub loop-x-init : goal.loop-x-init
+loop-x-init c =
+    let all = all-unread c.args.part.now _ _ _ c.into_iter-x-iterator.ensures.into_iter_gives c.rev-x-items.ensures.source c.iter.ensures.rest in
+    record { unread = all.0; bits = sym (no_bits _ _ _ all.1) }
 
 pub overflow_mul-bits : goal.overflow_mul-bits
-overflow_mul-bits c = let l = c.loop-i in omega (arith, small c.args.part.now l.i l.bits c.requires l.invariant.1)
-
-pub bounds-part-i : goal.bounds-part-i
-bounds-part-i c = omega arith
+overflow_mul-bits c = omega (arith, small c.args.part.now _ c.loop-x.bits c.requires c.loop-x.invariant.bits)
 
 pub overflow_add-bits : goal.overflow_add-bits
-overflow_add-bits c =
-    let l = c.loop-i in
-    omega (arith, small c.args.part.now l.i l.bits c.requires l.invariant.1)
+overflow_add-bits c = omega (arith, small c.args.part.now (length (left c)) _ c.requires (bits c))
 
-pub loop-i-smaller-then-part-i-eq0 : goal.loop-i-smaller-then-part-i-eq0
-loop-i-smaller-then-part-i-eq0 c = omega arith
-
-pub loop-i-preserved-then-part-i-eq0 : goal.loop-i-preserved-then-part-i-eq0
-loop-i-preserved-then-part-i-eq0 c =
-    let l = c.loop-i in
-    let free : ◌≡◌ {A = ℕ} (cond (eqb (get_or c.args.part.now (l.i - 1) 0) 0) 1 0) 1 = rw (eq-eqb _ _ c.if-part-i-eq0.true) in
-    let next = before c.args.part.now l.i l.bits (omega arith) (omega arith) l.invariant.1 in
-    (omega arith, omega arith)
-
-pub loop-i-smaller : goal.loop-i-smaller
-loop-i-smaller c = omega arith
-
-pub loop-i-preserved : goal.loop-i-preserved
-loop-i-preserved c =
-    let l = c.loop-i in
-    let taken : ◌≡◌ {A = ℕ} (cond (eqb (get_or c.args.part.now (l.i - 1) 0) 0) 1 0) 0 = rw (ne_eqb _ _ c.if-part-i-eq0.false) in
-    let next = before c.args.part.now l.i l.bits (omega arith) (omega arith) l.invariant.1 in
-    (omega arith, omega arith)
-
-pub returns : goal.returns
-returns c =
-    let i : c.loop-i.i ≡ 0 = omega arith in
-    c.loop-i.invariant.1 ∙ rw (i, zero-add, sub-zero)
+pub loop-x-preserved : goal.loop-x-preserved
+loop-x-preserved c = record { unread = unread c.loop-x.invariant.unread (left c) _ c.in-Some.ensures.steps; bits = bits c }

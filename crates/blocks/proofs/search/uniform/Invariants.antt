@@ -1,13 +1,7 @@
--- The loop's invariant: the part is all free, or all taken, where the rows that are left are. `row_is` tells of one row.
-use Rattle.std.proofs.Common.{◌≡◌, ◌+◌, ◌-◌, ◌%◌, ◌≤◌, eqb, length}
-use Rattle.blocks.specs.Inner.{as_free}
-use Rattle.blocks.specs.Placing.{all_free}
+-- The loop's invariant: the part is all free, or all taken, where the rows that are left are.
+use Rattle.std.proofs.Common.{cond, not, eqb}
+use Rattle.blocks.proofs.Chunks.{LeftOf}
 use Rattle.blocks.proofs.search.uniform.Given as goal
 
-abbrev pub invariant-loop-i : goal.invariant-loop-i
-invariant-loop-i l =
-    (l.i ≤ length l.part) × (l.i % 16 ≡ 0) × (all_free (as_free l.part (eqb l.x 0)) 0 (length l.part) ≡ all_free (as_free l.part (eqb l.x 0)) (0 + l.i)
-    (length l.part - l.i))
-
-abbrev pub decreases-loop-i : goal.decreases-loop-i
-decreases-loop-i l = length l.part - l.i
+abbrev pub invariant-loop-row : goal.invariant-loop-row
+invariant-loop-row l = LeftOf (λ y. cond (eqb l.x 0) (eqb y 0) (not (eqb y 0))) 16 l.part l.row-iterator

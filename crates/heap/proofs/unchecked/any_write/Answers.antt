@@ -1,7 +1,10 @@
--- The arguments refuse the write (`argument-refused`), or they make it ready: what is left is `write`.
+-- The arguments refuse the call (`argument-refused`), or they make it ready: what is left is `write`.
+use Rattle.std.proofs.Common.{rules}
+use Rattle.common.proofs.Numbers.{some-number}
 use Rattle.heap.proofs.Judging.{argument-refused}
 use Rattle.heap.proofs.unchecked.any_write.Goals as goal
 
-pub returns-then-number-ne0 : goal.returns-then-number-ne0
-returns-then-number-ne0 c =
-    argument-refused _ c.requires c.arguments-number.ensures c.if-number-ne0.true c.refused.ensures
+pub returns-in_err-arguments : goal.returns-in_err-arguments
+returns-in_err-arguments c =
+    let h = argument-refused _ c.requires c.in_err-arguments.ensures (some-number _) in
+    search rules

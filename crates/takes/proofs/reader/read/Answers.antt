@@ -1,15 +1,14 @@
--- By the number of `refusal`: other than 0, the reading is refused with it; 0, and the inner reader finds the record and the next place.
-use mathlib.Core.Path.{sym, ◌∙◌}
-use Rattle.takes.proofs.Readings.{refused-reading, good-found}
+-- A refused record's reading is refused with its number (`refused-reading`).
+use mathlib.Core.Path.{◌≡◌, ◌∙◌}
+use Rattle.std.proofs.Common.{rules}
+use Rattle.common.specs.Numbers.{number_of}
+use Rattle.takes.specs.Reading.{record_refused, given}
+use Rattle.common.proofs.Numbers.{some-number}
+use Rattle.takes.proofs.Readings.{refused-reading}
 use Rattle.takes.proofs.reader.read.Goals as goal
 
-pub returns-then-number-ne0 : goal.returns-then-number-ne0
-returns-then-number-ne0 c =
-    let a = c.args in
-    refused-reading a.file.now a.at c.refusal-number.result c.refusal-number.ensures c.if-number-ne0.true
-
-pub returns : goal.returns
-returns c =
-    let a = c.args in
-    good-found a.file.now a.at (sym c.refusal-number.ensures ∙ c.if-number-ne0.false)
-    c.read.result c.next.result c.read.ensures c.next.ensures
+pub returns-in_err-record : goal.returns-in_err-record
+returns-in_err-record c =
+    let reason = c.in_err-record.field-0.0 in
+    let e : given c.from_residual.result ≡ record_refused (number_of reason) = search rules in
+    e ∙ refused-reading c.args.file.now c.args.at (number_of reason) c.in_err-record.ensures.number (some-number reason)

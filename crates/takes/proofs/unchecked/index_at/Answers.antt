@@ -1,4 +1,4 @@
--- Two bytes of the file, each below 256, which the check takes from the file itself: left is how the two make the number.
+-- Two bytes of the file make the number.
 use native.Mathlib.Omega.{arith}
 use native.Mathlib.Nat.{add-zero}
 use Rattle.common.specs.Bytes.{big_endian}
@@ -6,4 +6,4 @@ use Rattle.takes.proofs.unchecked.index_at.Goals as goal
 
 pub returns : goal.returns
 unfolding big_endian
-returns c = let a = c.args in rw (add-zero a.at) (omega arith)
+returns c = rw (add-zero c.args.at) (omega (arith, c.from_be_bytes.ensures))

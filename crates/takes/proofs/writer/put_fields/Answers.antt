@@ -1,62 +1,34 @@
--- A law of `Rows` for a turn of the loop and for its end: the column lies among the values, and its bytes in the slice.
-use Prim.Native.Nat.{◌+◌, ◌≤◌}
-use mathlib.Core.Path.{refl}
+-- A law of `Rows` for a turn of the loop and for its end.
+use Prim.Native.Nat.{ℕ, ◌+◌, ◌<◌}
+use mathlib.Core.List.{[], ◌∷◌, ◌++◌}
+use mathlib.Core.Path.{◌≡◌, ◌∙◌, ap}
 use native.Mathlib.Omega.{arith}
-use lib.ListN.{length}
-use Rattle.takes.specs.Operations.{kinds_of}
-use Rattle.takes.specs.Inner.{most_fields}
-use Rattle.takes.proofs.Operations.{in_table}
-use Rattle.takes.proofs.Rows.{putting-column, putting-room, putting-turn, putting-end}
+use lib.ListN.{length, length-append, get_or}
+use Rattle.std.proofs.Common.{rules}
+use Rattle.std.proofs.lemmas.Slice.Zip.{zip_turn, zip_end}
+use Rattle.takes.specs.Operations.{Kind, register, size}
+use Rattle.takes.proofs.Rows.{putting-turn, putting-end}
 use Rattle.takes.proofs.writer.put_fields.Goals as goal
-use Rattle.takes.proofs.writer.put_fields.Goals.{After-size_of-size}
 
-pub loop-left-init : goal.loop-left-init
-loop-left-init c =
-    let p = c.args.p in
-    record {
-      rest = kinds_of p.op;
-      coded = c.requires.coded;
-      columns = omega (arith, (in_table p.op c.requires.listed.0).few, c.requires.listed.1);
-      same = refl;
-      room = c.requires.inside;
-      put = refl;
-    }
-
--- a field of the loop: its column, and its room in the slice
-module _ (c : After-size_of-size) where
-  column : c.loop-left.k + 1 ≤ most_fields
-  column = omega (arith, putting-column c.loop-left.invariant c.loop-left-test.true, c.requires.listed.1)
-
-  room : (c.size_of-size.result ≤ 4) × (c.loop-left.at + c.size_of-size.result ≤ length c.loop-left.out)
-  room =
-      let r = putting-room c.loop-left.invariant c.loop-left-test.true c.size_of-size.result c.size_of-size.ensures in
-      (r.0, omega (arith, r.1))
-
-pub offset_bounds-p-k : goal.offset_bounds-p-k
-offset_bounds-p-k c = omega (arith, column c)
-
-pub bounds-p-k : goal.bounds-p-k
-bounds-p-k c = omega (arith, column c)
-
-pub write_number-requires : goal.write_number-requires
-write_number-requires c = room (goal.at.write_number-requires c).After-size_of-size
-
-pub overflow_add-at : goal.overflow_add-at
-overflow_add-at c = omega (arith, room (goal.at.overflow_add-at c).After-size_of-size)
-
-pub overflow_add-k : goal.overflow_add-k
-overflow_add-k c = omega (arith, column (goal.at.overflow_add-k c).After-size_of-size)
-
-pub loop-left-smaller : goal.loop-left-smaller
-loop-left-smaller c = omega arith
-
-pub loop-left-preserved : goal.loop-left-preserved
-loop-left-preserved c =
+pub loop-kind-preserved : goal.loop-kind-preserved
+loop-kind-preserved c =
+    let l = c.loop-kind in
+    let k : ℕ = length l.yielded in
+    let start = c.into_iter-kind-iterator.result in
+    let turn : (k < length c.args.kinds.now) × (k < length c.args.values.now)
+    × ((d : Kind) → c.in-Some.kind.now ≡ get_or c.args.kinds.now k d) × ((d : ℕ) → c.in-Some.v.now ≡ get_or c.args.values.now k d) =
+    zip_turn c.args.kinds.now c.args.values.now l.yielded start l.kind-iterator c.next.new.self _ (search rules) (search rules) l.yielded_by _
+    c.in-Some.is c.next.ensures.steps in
     let w = c.write_number in
-    putting-turn c.loop-left.invariant c.loop-left-test.true c.size_of-size.result c.size_of-size.ensures w.new.s w.ensures w.auto.s
-
-pub shape_of-out : goal.shape_of-out
-shape_of-out c = c.loop-left.invariant.same
+    let more : length (l.yielded ++ (c.in-Some.kind, c.in-Some.v) ∷ []) ≡ k + 1 = length-append _ _ in
+    let width = c.size-size.ensures ∙ ap size (turn.2 register) in
+    rw more (putting-turn l.invariant turn.0 turn.1 c.size-size.result width w.new.s (rw (← turn.3 0) w.ensures) w.auto.s)
 
 pub returns : goal.returns
-returns c = putting-end c.loop-left.invariant c.loop-left-test.false
+returns c =
+    let l = c.loop-kind in
+    let start = c.into_iter-kind-iterator.result in
+    let n =
+    zip_end c.args.kinds.now c.args.values.now l.yielded start l.kind-iterator c.next.new.self _ (search rules) (search rules) l.yielded_by
+    c.in-None.is c.next.ensures.steps in
+    putting-end l.invariant (omega (arith, n, c.requires))

@@ -1,80 +1,54 @@
 -- The record is taken apart, and its row says its length and its kinds. A law of `Records` for each return over those parts: a high register, no room, and
 -- the bytes stored.
-use Prim.Native.Nat.{ℕ, ◌/◌, ◌%◌}
+use Prim.Native.Nat.{ℕ, ◌≤◌}
 use mathlib.Core.Path.{◌≡◌, sym, ◌∙◌}
-use mathlib.Core.Bool.{true, false}
-use mathlib.Core.List.{List}
+use mathlib.Core.Bool.{false}
 use native.Mathlib.Omega.{arith}
 use lib.ListN.{length, length-set}
-use Rattle.takes.specs.Operations.{known, kinds_of, length_of}
+use Rattle.heap.specs.OperationNumbers.{number_of}
+use Rattle.takes.specs.Operations.{kinds_of}
 use Rattle.takes.specs.Reading.{high_register}
-use Rattle.takes.specs.Inner.{most_fields, digits}
-use Rattle.takes.proofs.Operations.{row-length, row-kinds}
-use Rattle.takes.proofs.Records.{values-known, values-count, write-high, write-short, write_done}
+use Rattle.takes.specs.Inner.{most_fields}
+use Rattle.takes.proofs.Operations.{in_table, known-operation}
+use Rattle.takes.proofs.Records.{write-high, write-short, write_done}
 use Rattle.takes.proofs.writer.write_record.Goals as goal
 use Rattle.takes.proofs.writer.write_record.Goals.{After-row_of-row, Else-high_in_values}
 
 -- the record taken apart, and its row
 module _ (c : After-row_of-row) where
-  abbrev lent : List ℕ
-  lent = c.args.out.now
-
   abbrev op : ℕ
-  op = c.values_of-p.result.op
+  op = number_of c.parts_of-operation.result.0
 
-  abbrev vs : List ℕ
-  vs = c.values_of-p.result.values
-
-  known-op : known op ≡ true
-  known-op = values-known c.args.r lent op vs c.values_of-p.ensures
-
-  all-values : length vs ≡ most_fields
-  all-values = values-count c.args.r lent op vs c.values_of-p.ensures
-
-  length-is : c.row_of-row.result % 256 ≡ length_of op
-  length-is = row-length op c.row_of-row.result c.row_of-row.ensures known-op
-
-  kinds-are : c.row_of-row.result / 256 ≡ digits (kinds_of op)
-  kinds-are = row-kinds op c.row_of-row.result c.row_of-row.ensures known-op
+  few : length c.row_of-row.result.kinds.now ≤ most_fields
+  few = rw c.row_of-row.ensures.kinds (in_table op (known-operation c.parts_of-operation.result.0)).few
 
 pub high_in_values-requires : goal.high_in_values-requires
-high_in_values-requires c = record { listed = (known-op c, all-values c); coded = kinds-are c }
+high_in_values-requires c = few (goal.at.high_in_values-requires c).After-row_of-row
 
 pub returns-then-high_in_values : goal.returns-then-high_in_values
 returns-then-high_in_values c =
-    let p = c.values_of-p in
-    write-high c.args.r c.args.out.now p.result.op p.result.values p.ensures (sym c.if-high_in_values.true ∙ c.high_in_values.ensures)
+    let p = c.parts_of-operation in
+    write-high c.args.r c.args.out.now (number_of p.result.0) p.result.1 p.ensures
+    (rw c.row_of-row.ensures.kinds at (sym c.if-high_in_values.true ∙ c.high_in_values.ensures))
 
 -- no register is high
-module _ (c : Else-high_in_values) where
-  low : false ≡ high_register (kinds_of c.values_of-p.result.op) c.values_of-p.result.values
-  low = sym c.if-high_in_values.false ∙ c.high_in_values.ensures
+low : (c : Else-high_in_values) → false ≡ high_register (kinds_of (number_of c.parts_of-operation.result.0)) c.parts_of-operation.result.1
+low c = rw c.row_of-row.ensures.kinds at (sym c.if-high_in_values.false ∙ c.high_in_values.ensures)
 
-pub returns-then-out-count : goal.returns-then-out-count
-returns-then-out-count c =
-    let at = goal.at.returns-then-out-count c in
-    let p = c.values_of-p in
-    write-short c.args.r c.args.out.now p.result.op p.result.values p.ensures (low at.Else-high_in_values)
-    (omega (arith, length-is at.After-row_of-row))
-
-pub bounds-out-1 : goal.bounds-out-1
-bounds-out-1 c = simp length-set (omega (arith, length-is (goal.at.bounds-out-1 c).After-row_of-row))
+pub returns-then-out-from : goal.returns-then-out-from
+returns-then-out-from c =
+    let p = c.parts_of-operation in
+    write-short c.args.r c.args.out.now (number_of p.result.0) p.result.1 p.ensures (low (goal.at.returns-then-out-from c).Else-high_in_values)
+    (omega (arith, c.row_of-row.ensures.length, c.from.ensures))
 
 pub put_fields-requires : goal.put_fields-requires
 put_fields-requires c =
-    let p = (goal.at.put_fields-requires c).After-row_of-row in
-    record {
-      listed = (known-op p, all-values p);
-      coded = kinds-are p;
-      inside = simp length-set (omega (arith, length-is p));
-    }
-
-pub shape_of-out : goal.shape_of-out
-shape_of-out c = c.put_fields.auto.out ∙ simp length-set
+    let row = c.row_of-row.ensures in
+    (few (goal.at.put_fields-requires c).After-row_of-row, simp length-set (rw row.kinds (omega (arith, row.length, c.from.ensures))))
 
 pub returns : goal.returns
 returns c =
-    let at = goal.at.returns c in
-    let p = c.values_of-p in
-    write_done c.args.r c.args.out.now p.result.op p.result.values p.ensures (low at.Else-high_in_values)
-    (c.row_of-row.result % 256) c.put_fields.new.out (length-is at.After-row_of-row) (omega arith) c.put_fields.ensures
+    let p = c.parts_of-operation in
+    write_done c.args.r c.args.out.now (number_of p.result.0) p.result.1 p.ensures (low (goal.at.returns c).Else-high_in_values)
+    c.from-2.result c.put_fields.new.out (c.from-2.ensures ∙ c.row_of-row.ensures.length) (omega (arith, c.from.ensures))
+    (rw (← c.row_of-row.ensures.kinds, c.from-2.ensures, ← c.byte_of.ensures) c.put_fields.ensures)
