@@ -201,3 +201,28 @@ fn library_runs_on_any_x86_64() {
     let newer: Vec<&&str> = instructions.iter().filter(|name| NEWER.contains(name) || name.starts_with('v')).collect();
     assert!(newer.is_empty(), "instructions of x86-64-v2 and up: {newer:?}");
 }
+
+/// The manual promises no writable static data: not even data that is written once, where it is loaded.
+#[cfg(feature = "library")]
+#[test]
+fn library_has_no_data_of_its_own() {
+    let headers = run(Command::new("objdump").args(["-h", "-w", env!("TULIVOMBE_LIBRARY")]));
+    let sections: Vec<&str> = headers.lines().filter(|line| line.contains("ALLOC")).collect();
+    assert!(sections.iter().any(|line| line.contains("CODE")), "objdump shows no code");
+    let is_empty = |line: &str| line.split_whitespace().nth(2).is_some_and(|size| size.bytes().all(|digit| digit == b'0'));
+    let writable: Vec<&&str> = sections.iter().filter(|line| !line.contains("READONLY") && !is_empty(line)).collect();
+    assert!(writable.is_empty(), "{writable:#?}");
+}
+
+/// What was judged is not judged again where it is carried out: no test is left there that would have to end in a trap.
+#[cfg(feature = "library")]
+#[test]
+fn runs_and_replays_have_no_trap() {
+    let code = run(Command::new("objdump").args(["-d", "--no-show-raw-insn", env!("TULIVOMBE_LIBRARY")]));
+    let functions: Vec<&str> = code.split("\n\n").filter(|function| function.contains(">:\n")).collect();
+    for name in ["<runner::run_by>:", "<tulivombe_replay>:"] {
+        let named = functions.iter().find(|function| function.contains(name));
+        let function = named.unwrap_or_else(|| panic!("objdump shows no {name}"));
+        assert!(!function.contains("ud2"), "{name} has a trap");
+    }
+}

@@ -1,14 +1,12 @@
 -- What the damage scan knows where it has read a block's entry: the range round the slot, as the code computes it, and what its slots say of the table.
-use Rattle.std.proofs.Common.{◌≡◌, ℕ, ◌+◌, ◌-◌, ◌*◌, ◌/◌, ◌%◌, ◌^◌, ◌<◌, ◌≤◌, true, false, ◌&&◌, eqb, leb, List, length, get_or, take, drop}
-use Rattle.std.proofs.Common.{sym, refl, ◌∙◌, arith}
+use Rattle.std.proofs.Common.{◌≡◌, ℕ, ◌+◌, ◌-◌, ◌*◌, ◌/◌, ◌%◌, ◌^◌, ◌<◌, ◌≤◌, true, false, ◌&&◌, leb, List, length, get_or}
+use Rattle.std.proofs.Common.{sym, refl, arith}
 use Rattle.blocks.specs.Blocks.{floor}
 use Rattle.blocks.specs.Placing.{all_free}
 use Rattle.blocks.specs.Tables.{entry_order, damaged_by}
 use Rattle.blocks.specs.Inner.{has_entry}
 use Rattle.blocks.proofs.Floors.{floor-le, floor-end, pow-split}
-use Rattle.blocks.proofs.FreeRuns.{part_length, run-of-part}
-use Rattle.blocks.proofs.Chunks.{all_pass}
-use Rattle.blocks.proofs.Rows.{floor-rows, run_at, run-bad}
+use Rattle.blocks.proofs.Rows.{floor-rows, run-bad}
 use Rattle.blocks.proofs.Tables.{Good, damaged-at, order-bad, torn-bad, whole-good}
 
 -- slot i of the table s is taken, by a block of the order e, with n slots
@@ -21,12 +19,9 @@ pub record Read (t m : ℕ) (s : List ℕ) (i e n : ℕ) : Type 0 where
   pub high : e ≤ m
   pub size : n ≡ 2 ^ (e - t)
 
--- the first slot of its range, and the entries of the range
+-- the first slot of its range
 abbrev pub first_of : ℕ → ℕ → ℕ
 first_of i n = i / n * n
-
-abbrev pub range_of : List ℕ → ℕ → ℕ → List ℕ
-range_of s i n = take (first_of i n + n - first_of i n) (drop (first_of i n) s)
 
 first_is : (i a n : ℕ) → n ≡ 2 ^ a → first_of i n ≡ floor a i
 unfolding floor
@@ -43,9 +38,6 @@ module _ {t m : ℕ} {s : List ℕ} {i e n : ℕ} (r : Read t m s i e n) where
   last_in =
       let h = r.high in
       rw (first_is i (e - t) n r.size, r.size, r.slots) (floor-end (e - t) (m - t) i (omega arith) (rw r.slots at r.here))
-
-  pub range_length : length (range_of s i n) ≡ n
-  range_length = part_length s (first_of i n) n last_in
 
   -- its slots are whole pairs, and whole rows
   pub pairs : t < e → n % 2 ≡ 0
@@ -74,15 +66,9 @@ module _ {t m : ℕ} {s : List ℕ} {i e n : ℕ} (r : Read t m s i e n) where
       whole-good t m s i (get_or s i 0) e r.taken
       record { order = r.says; low = r.low; high = r.high; entries = λ k l u. h k (omega arith) (omega arith) } j low (omega arith)
 
-  -- the same of the range as a list
-  range-run : all_pass (λ y. eqb y (get_or s i 0)) (range_of s i n) ≡ all_free (has_entry s (get_or s i 0)) (first_of i n) n
-  range-run = rw range_length (run-of-part (λ y. eqb y (get_or s i 0)) s (first_of i n) n)
-
-  pub range-damaged : all_pass (λ y. eqb y (get_or s i 0)) (range_of s i n) ≡ false → true ≡ damaged_by t m s
-  range-damaged h =
+  -- a run of slots of the range, not all with its entry, shows damage
+  pub run-damaged : (k l : ℕ) → first_of i n ≤ k → k + l ≤ first_of i n + n → all_free (has_entry s (get_or s i 0)) k l ≡ false → true ≡ damaged_by t m s
+  run-damaged k l lo hi h =
       let f = first_is i (e - t) n r.size in
       let size = r.size in
-      sym (damaged-at t m s i _ r.here refl (run-bad t m s i _ e (first_of i n) n r.says r.taken (omega arith) (omega arith) (sym range-run ∙ h)))
-
-  pub range-good : all_pass (λ y. eqb y (get_or s i 0)) (range_of s i n) ≡ true → (j : ℕ) → i ≤ j → j < first_of i n + n → Good t m s j
-  range-good h = alike-good (λ k hi lo. run_at s (get_or s i 0) (first_of i n) n (sym range-run ∙ h) k lo hi)
+      sym (damaged-at t m s i _ r.here refl (run-bad t m s i _ e k l r.says r.taken (omega arith) (omega arith) h))

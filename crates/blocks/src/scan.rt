@@ -70,10 +70,13 @@ pub fn by_rows(table: &[u8], t: u32, m: u32) -> bool
             let slots = slots_of(t, e);
             let from = i / slots * slots;
             let to = from + slots;
-            for row in table[from..to].chunks_exact(ROW) {
-                if !row_passes(row, |y| y == x) {
+            let mut at = from;
+            while at < to {
+                let end = at + ROW;
+                if !row_passes(&table[at..end], |y| y == x) {
                     break 'scan true;
                 }
+                at = end;
             }
             i = to;
         }
@@ -116,7 +119,9 @@ pub fn row_passes<F: Fn(u8) -> bool>(row: &[u8], test: F) -> bool
 {
     let mut same = true;
     for i in (0..ROW).rev() {
-        same &= test(row[i]);
+        if !test(row[i]) {
+            same = false;
+        }
     }
     same
 }

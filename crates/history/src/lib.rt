@@ -65,7 +65,7 @@ fn make_call_at(
     let a = common::read_number(s, at + 2, 4);
     let b = common::read_number(s, at + 6, 4);
     let c = common::read_number(s, at + 10, 4);
-    match Operation::try_from(s[at]).unwrap() {
+    match Operation::known(s[at]) {
         Operation::Get => unchecked::any_get(arena, table, SLOT_ORDER, m, a),
         Operation::Give => unchecked::give(arena, table, SLOT_ORDER, m, a),
         Operation::Step => unchecked::step(arena, table, SLOT_ORDER, m, a, b),

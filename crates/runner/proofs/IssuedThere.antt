@@ -12,7 +12,6 @@ use Rattle.takes.specs.declared.table.Kind.TheVariants.{Register as register, By
 use Rattle.takes.specs.Reading.{values, high_register, read_at}
 use Rattle.takes.specs.Inner.{byte_at, half_at, word_at, registers_in, record_from}
 use Rattle.takes.proofs.Fields.{number-one}
-pub use Rattle.takes.proofs.Operations.{decoded, number-decoded}
 pub use Rattle.takes.proofs.Readings.{good-known, good-fits, good-inside}
 use Rattle.takes.proofs.Readings.{operation-at, good-whole}
 use Rattle.takes.proofs.Records.{get-is, give-is, step_is, read_is, write-is, left_is, copy_is, fill_is, lock-is, unlock-is, again-is, set_is, grid-is}
@@ -135,4 +134,4 @@ registers-there file at o good e =
     let low = rw (operation-at file at, drop-drop 2 at file) at (good-whole file at good).low in registers-low (kinds_of o) file (at + 2) (rw e low)
 
 -- what is known of such a record
-pub ruleset of_accepted = (good-known, good-fits, good-inside, decoded, number-decoded, registers-there)
+pub ruleset of_accepted = (good-known, good-fits, good-inside, registers-there)

@@ -137,7 +137,7 @@ impl Fields<'_> {
 pub fn issue(accepted: &Accepted<'_>, values: &[u32; COUNT]) -> Issued
     ensures { result ≡ issued_with values.now (record_there accepted.now.file.now accepted.now.at) }
 {
-    let operation = Operation::try_from(accepted.file[accepted.at + 1]).unwrap();
+    let operation = Operation::known(accepted.file[accepted.at + 1]);
     let fields = Fields {
         file: accepted.file,
         at: accepted.at + 2,

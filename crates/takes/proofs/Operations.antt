@@ -9,10 +9,7 @@ use lib.Dec.{eqb, leb, ltb}
 use lib.ListN.{length, get_or, get_or-map}
 use borrow.Author.Tests.{eqb-true, ltb-true, leb-true, leb-false, le-leb, lt-leb}
 use Rattle.common.proofs.Booleans.{and_left, and_right}
-use Rattle.std.proofs.Common.{rules, Result, Ok, Err}
-use Rattle.std.specs.Result.{IsOk}
-use Rattle.common.specs.declared.reasons.Refusal.{Refusal as Reason}
-use Rattle.heap.specs.OperationNumbers.{last_operation, is_operation, number_of, decodes}
+use Rattle.heap.specs.OperationNumbers.{last_operation, is_operation, number_of}
 use Rattle.heap.specs.declared.operations.Operation.{Operation}
 use Rattle.heap.specs.declared.operations.Operation.TheVariants.{Get, Give, Step, Read, Write, Left, Copy, Fill, Lock, Unlock, Again, Set, Grid}
 use Rattle.takes.specs.Operations.{Row, ◌has◌, operations, known_in, known, kinds_of}
@@ -117,11 +114,3 @@ row-says say meant rows d k o place e =
     let n : suc k ≡ number_of o = omega (arith, place) in
     sym (get_or-map say rows k d)
     ∙ (ap (λ (xs : List _). get_or xs k (say d)) e ∙ (tabulated-at (λ k. meant (suc k)) (say d) last_operation k l ∙ ap meant n))
-
--- What is made of an operation's number is the operation.
-pub decoded : (op : ℕ) (r : Result Operation Reason) → decodes op r → known op ≡ true → IsOk r
-decoded op (Ok o) d h = search rules
-decoded op (Err reason) d h = absurd (false≢true (sym d.1 ∙ (sym (known-numbers op) ∙ h)))
-
-pub number-decoded : (op : ℕ) (r : Result Operation Reason) (o : Operation) → decodes op r → r ≡ Ok o → number_of o ≡ op
-number-decoded op r o d e = subst (decodes op) e d

@@ -19,7 +19,7 @@ use Rattle.takes.specs.Reading.{values, length_byte, operation_byte, field_value
 use Rattle.takes.specs.Reading.{Given, record_found, record_refused, read_rules, read_bytes, read_at}
 use Rattle.takes.specs.Inner.{record_there}
 use Rattle.takes.specs.declared.Record.{Record}
-use Rattle.takes.proofs.Operations.{known-numbers, known-operation, decoded, number-decoded}
+use Rattle.takes.proofs.Operations.{known-numbers, known-operation}
 use Rattle.common.proofs.Booleans.{or-false-left, or-false-right}
 
 -- some bytes start with a record that passes 4 to 7
@@ -202,4 +202,4 @@ module _ (s : List ℕ) (at : ℕ) where
     good-next n e = rw (e, good-reading, length_at)
 
 -- what a good record gives
-pub ruleset of_good = (good-known, good-fits, good-inside, good-next, good-record, decoded, number-decoded)
+pub ruleset of_good = (good-known, good-fits, good-inside, good-next, good-record)

@@ -9,17 +9,13 @@ use lib.Dec.{eqb}
 use lib.ListN.{length, take, drop, set, length-append, length-drop, drop_of_length-le}
 use lib.Seq.{drop-drop, take-add, take_at, drop_at, take_all, length-take-le}
 use borrow.Author.Tests.{lt-ltb, le-ltb, ne_eqb, eqb-true}
-use Rattle.std.specs.Prelude.{Result, Ok, Err, IsOk}
-use Rattle.std.proofs.Common.{rules}
-use Rattle.common.specs.declared.reasons.Refusal.{Refusal as Reason}
-use Rattle.common.proofs.Numbers.{some-number}
 use Rattle.takes.specs.Reading.{length_byte}
 use Rattle.takes.specs.Files.{head_length, size_byte, walk_from, Walk, file_number, judgement}
 use Rattle.takes.specs.Writing.{WriteOutcome, write_outcome, record_bytes, write_head, write_record, rewrite_file}
 use Rattle.takes.specs.RoundTrips.{Bytes}
 use Rattle.takes.specs.declared.Record.{Record}
 use Rattle.takes.specs.Files.{Judgement}
-use Rattle.takes.specs.Writing.{Written, written_of}
+use Rattle.takes.specs.Writing.{Written}
 use Rattle.takes.proofs.Numbers.{bytes_drop}
 use Rattle.takes.proofs.Heads.{two_set, head-stored}
 use Rattle.takes.proofs.Readings.{Whole, the_record, span}
@@ -38,11 +34,6 @@ module _ (file : List ℕ) (j : Judgement) (judged : j ≡ judgement file) where
 
   pub size-judged : j.number ≡ 0 → j.size ≡ size_byte file
   size-judged z = let e : file_number file ≡ 0 = sym number-judged ∙ z in ap (λ (x : Judgement). x.size) judged ∙ rw e
-
--- what a writer did not refuse can be unwrapped
-pub written-ok : (r : Result ℕ Reason) → (written_of r).number ≡ 0 → IsOk r
-written-ok (Ok count) z = search rules
-written-ok (Err reason) z = absurd (some-number reason z)
 
 -- the writer's answer for the record that some bytes start with: those bytes
 rewritten : (bs out : List ℕ) → Bytes bs → Whole bs → length bs ≤ length out

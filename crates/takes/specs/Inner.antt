@@ -8,6 +8,7 @@ use Rattle.takes.specs.Records.{record_of}
 use Rattle.takes.specs.Reading.{values, operation_byte, field_values}
 use Rattle.takes.specs.Files.{strays}
 use Rattle.takes.specs.declared.Record.{Record}
+use Rattle.takes.specs.declared.table.Row.{Row}
 use Rattle.takes.specs.declared.Record.TheVariants.{Get, Give, Step, Read, Write, Left, Copy, Fill, Lock, Unlock, Again, Set, Grid}
 
 -- the most fields that an operation has
@@ -21,6 +22,10 @@ registers_in (register ∷ ks) = suc (registers_in ks)
 registers_in (byte ∷ ks) = 0
 registers_in (half ∷ ks) = 0
 registers_in (word ∷ ks) = 0
+
+-- the kinds that a row of the code's table has, those of its fields first
+abbrev pub kinds_of_row : Row → List Kind
+kinds_of_row r = r.kinds.0 ∷ r.kinds.1 ∷ r.kinds.2 ∷ r.kinds.3 ∷ r.kinds.4 ∷ r.kinds.5 ∷ []
 
 -- one of n bytes of the file, from a place on, is a register past the last
 abbrev pub any_high : ℕ → List ℕ → ℕ → Bool

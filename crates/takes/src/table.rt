@@ -1,9 +1,9 @@
 // The operation table, which the reader and the writer consult, and what the kind of a field says.
-ghost use Rattle.std.specs.Prelude.{◌≡◌};
+ghost use Rattle.std.specs.Prelude.{◌≡◌, ◌≤◌, take};
 ghost use Rattle.heap.specs.OperationNumbers.{number_of};
 ghost use Rattle.takes.specs.Operations.{kinds_of, length_of, size};
 ghost use Rattle.takes.specs.Reading.{is_high};
-ghost use Rattle.takes.specs.Inner.{registers_in};
+ghost use Rattle.takes.specs.Inner.{kinds_of_row, most_fields, registers_in};
 
 use Kind::{Byte, Half, Register, Word};
 use heap::operations::Operation;
@@ -46,12 +46,28 @@ impl Kind {
     }
 }
 
+// The most fields that a record has.
+pub const FIELDS: usize = 6;
+
 /// An operation's row: the length byte of its records, and the kinds of their fields. The registers, one to three, are the first of them.
 #[derive(Clone, Copy)]
 pub struct Row {
     pub length: u8,
     pub registers: u8,
-    pub kinds: &'static [Kind],
+    // How many fields there are, and their kinds; what stands behind those is of no field. (As a slice they would be a pointer, and a table of pointers is data
+    // that a loader writes; a static of rows with an array is not to be had.)
+    pub fields: u8,
+    kinds: (Kind, Kind, Kind, Kind, Kind, Kind),
+}
+
+impl Row {
+    // The kinds of the fields, with what stands behind them.
+    pub fn kinds(self) -> [Kind; FIELDS]
+        ensures { result ≡ kinds_of_row self }
+    {
+        let (a, b, c, d, e, f) = self.kinds;
+        [a, b, c, d, e, f]
+    }
 }
 
 // A row for each operation, in the order of their numbers.
@@ -60,79 +76,92 @@ static OPERATIONS: [Row; operations::LAST as usize] = [
     Row {
         length: 6,
         registers: 1,
-        kinds: &[Register, Word],
+        fields: 2,
+        kinds: (Register, Word, Byte, Byte, Byte, Byte),
     },
     // give a
     Row {
         length: 2,
         registers: 1,
-        kinds: &[Register],
+        fields: 1,
+        kinds: (Register, Byte, Byte, Byte, Byte, Byte),
     },
     // step d a i
     Row {
         length: 7,
         registers: 2,
-        kinds: &[Register, Register, Word],
+        fields: 3,
+        kinds: (Register, Register, Word, Byte, Byte, Byte),
     },
     // read d a w
     Row {
         length: 4,
         registers: 2,
-        kinds: &[Register, Register, Byte],
+        fields: 3,
+        kinds: (Register, Register, Byte, Byte, Byte, Byte),
     },
     // write a w v
     Row {
         length: 7,
         registers: 1,
-        kinds: &[Register, Byte, Word],
+        fields: 3,
+        kinds: (Register, Byte, Word, Byte, Byte, Byte),
     },
     // left d a
     Row {
         length: 3,
         registers: 2,
-        kinds: &[Register, Register],
+        fields: 2,
+        kinds: (Register, Register, Byte, Byte, Byte, Byte),
     },
     // copy d a b n
     Row {
         length: 8,
         registers: 3,
-        kinds: &[Register, Register, Register, Word],
+        fields: 4,
+        kinds: (Register, Register, Register, Word, Byte, Byte),
     },
     // fill d a v n
     Row {
         length: 8,
         registers: 2,
-        kinds: &[Register, Register, Byte, Word],
+        fields: 4,
+        kinds: (Register, Register, Byte, Word, Byte, Byte),
     },
     // lock a
     Row {
         length: 2,
         registers: 1,
-        kinds: &[Register],
+        fields: 1,
+        kinds: (Register, Byte, Byte, Byte, Byte, Byte),
     },
     // unlock a
     Row {
         length: 2,
         registers: 1,
-        kinds: &[Register],
+        fields: 1,
+        kinds: (Register, Byte, Byte, Byte, Byte, Byte),
     },
     // again d k
     Row {
         length: 4,
         registers: 1,
-        kinds: &[Register, Half],
+        fields: 2,
+        kinds: (Register, Half, Byte, Byte, Byte, Byte),
     },
     // set d n
     Row {
         length: 6,
         registers: 1,
-        kinds: &[Register, Word],
+        fields: 2,
+        kinds: (Register, Word, Byte, Byte, Byte, Byte),
     },
     // grid d a rows columns row column
     Row {
         length: 7,
         registers: 2,
-        kinds: &[Register, Register, Byte, Byte, Byte, Byte],
+        fields: 6,
+        kinds: (Register, Register, Byte, Byte, Byte, Byte),
     },
 ];
 
@@ -147,7 +176,8 @@ pub fn byte_of(operation: Operation) -> u8
 pub fn row_of(operation: Operation) -> Row
     ensures length { result.length ≡ length_of (number_of operation) }
     ensures registers { result.registers ≡ registers_in (kinds_of (number_of operation)) }
-    ensures kinds { result.kinds.now ≡ kinds_of (number_of operation) }
+    ensures fields { result.fields ≤ most_fields }
+    ensures kinds { take result.fields (kinds_of_row result) ≡ kinds_of (number_of operation) }
 {
     OPERATIONS[usize::from(byte_of(operation)) - 1]
 }

@@ -23,7 +23,7 @@ pub fn index_at(file: &[u8], at: usize) -> u16
     requires { at + 2 ≤ length file.now }
     ensures { result ≡ half_at file.now at }
 {
-    u16::from_be_bytes([file[at], file[at + 1]])
+    u16::from(file[at]) * 256 + u16::from(file[at + 1])
 }
 
 // The record of an operation, whose fields start at `at`: each is taken straight from its place in the file.
@@ -73,7 +73,7 @@ impl Accepted<'_> {
     pub fn read(&self) -> Record
         ensures { some result ≡ (read_at self.now.file.now self.now.at).found }
     {
-        let operation = Operation::try_from(self.file[self.at + 1]).unwrap();
+        let operation = Operation::known(self.file[self.at + 1]);
         record_at(self.file, self.at + 2, operation)
     }
 

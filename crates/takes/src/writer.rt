@@ -9,7 +9,7 @@ ghost use Rattle.takes.specs.Inner.{most_fields, padded};
 ghost use Rattle.takes.specs.Writing.{write_outcome, written_of, write_head, write_record, rewrite_file, value_bytes};
 
 use crate::files::{is_arena_order, judge};
-use crate::table::{Kind, byte_of, row_of};
+use crate::table::{FIELDS, Kind, byte_of, row_of};
 use crate::unchecked::Accepted;
 use crate::{HEAD, Record};
 use common::Refusal;
@@ -17,9 +17,6 @@ use heap::operations::Operation;
 use heap::operations::Operation::{
     Again, Copy, Fill, Get, Give, Grid, Left, Lock, Read, Set, Step, Unlock, Write,
 };
-
-// The most fields that a record has.
-const FIELDS: usize = 6;
 
 // A record taken apart: its operation, and the values of its fields, 0 where it has no further one.
 fn parts_of(r: Record) -> (Operation, [u32; FIELDS])
@@ -92,7 +89,9 @@ pub fn write_record(out: &mut [u8], r: Record) -> Result<u32, Refusal>
 {
     let (operation, values) = parts_of(r);
     let row = row_of(operation);
-    if high_in_values(&values, row.kinds) {
+    let all = row.kinds();
+    let kinds = &all[..usize::from(row.fields)];
+    if high_in_values(&values, kinds) {
         return Err(Refusal::NoRegister);
     }
     if out.len() <= usize::from(row.length) {
@@ -100,7 +99,7 @@ pub fn write_record(out: &mut [u8], r: Record) -> Result<u32, Refusal>
     }
     out[0] = row.length;
     out[1] = byte_of(operation);
-    put_fields(out, &values, row.kinds);
+    put_fields(out, &values, kinds);
     Ok(u32::from(row.length) + 1)
 }
 
@@ -112,13 +111,13 @@ pub fn rewrite(file: &[u8], out: &mut [u8]) -> Result<u32, Refusal>
     if out.len() < file.len() {
         return Err(Refusal::NoRoom);
     }
-    // Neither the head nor a record of an accepted file is refused, and there is room for each.
-    write_head(out, judged.size).unwrap();
+    // Neither the head nor a record of an accepted file is refused, and there is room for each: what the two answer is let go.
+    let _ = write_head(out, judged.size);
     let mut at = HEAD;
     // As in `judge`, the stride is each record's own.
     while at < file.len() {
         let record = Accepted { file, at };
-        write_record(&mut out[at..], record.read()).unwrap();
+        let _ = write_record(&mut out[at..], record.read());
         at = record.next();
     }
     Ok(at as u32)

@@ -15,57 +15,57 @@ use Rattle.heap.specs.declared.operations.Operation.TheVariants.{Get, Give, Step
 use Rattle.history.specs.Replaying.{call_named, second_byte, call_at}
 use Rattle.history.proofs.Encoding.{call-is}
 use Rattle.history.proofs.make_call_at.Goals as goal
-use Rattle.history.proofs.make_call_at.Goals.{After-unwrap}
+use Rattle.history.proofs.make_call_at.Goals.{After-known}
 
 -- the operation is told, and the fields are read
-module _ (c : After-unwrap) where
+module _ (c : After-known) where
   abbrev h : Heap
   h = heap_of c.args.arena.now c.args.table.now
 
   -- the outcome o of the call that the operation v names
-  made : (v : Operation) {o : Outcome Heap} → c.unwrap.result ≡ v
+  made : (v : Operation) {o : Outcome Heap} → c.known.result ≡ v
       → o ≡ heap_step slot_order c.args.m (call_named (number_of v) (get_or c.args.s.now (c.args.at + 1) 0) c.read_number-a.result c.read_number-b.result
       c.read_number-c.result (second_byte c.args.s.now c.args.at)) h
       → o ≡ heap_step slot_order c.args.m (call_at c.args.s.now c.args.at) h
   made v is q =
-      let named : number_of c.unwrap.result ≡ get_or c.args.s.now c.args.at 0 = rw c.unwrap.ensures at c.try_from.ensures in
+      let named : number_of c.known.result ≡ get_or c.args.s.now c.args.at 0 = c.known.ensures in
       let read = call-is c.args.s.now c.args.at _ _ _ c.read_number-a.ensures c.read_number-b.ensures c.read_number-c.ensures (number_of v)
       (sym named ∙ ap number_of is) in
       q ∙ ap (λ (y : Call). heap_step slot_order c.args.m y h) read
 
 pub returns-in-Get : goal.returns-in-Get
-returns-in-Get c = made (goal.at.returns-in-Get c).After-unwrap Get c.in-Get.is c.any_get.ensures
+returns-in-Get c = made (goal.at.returns-in-Get c).After-known Get c.in-Get.is c.any_get.ensures
 
 pub returns-in-Give : goal.returns-in-Give
-returns-in-Give c = made (goal.at.returns-in-Give c).After-unwrap Give c.in-Give.is c.give.ensures
+returns-in-Give c = made (goal.at.returns-in-Give c).After-known Give c.in-Give.is c.give.ensures
 
 pub returns-in-Step : goal.returns-in-Step
-returns-in-Step c = made (goal.at.returns-in-Step c).After-unwrap Step c.in-Step.is c.step.ensures
+returns-in-Step c = made (goal.at.returns-in-Step c).After-known Step c.in-Step.is c.step.ensures
 
 pub returns-in-Read : goal.returns-in-Read
-returns-in-Read c = made (goal.at.returns-in-Read c).After-unwrap Read c.in-Read.is c.any_read.ensures
+returns-in-Read c = made (goal.at.returns-in-Read c).After-known Read c.in-Read.is c.any_read.ensures
 
 pub returns-in-Write : goal.returns-in-Write
-returns-in-Write c = made (goal.at.returns-in-Write c).After-unwrap Write c.in-Write.is c.any_write.ensures
+returns-in-Write c = made (goal.at.returns-in-Write c).After-known Write c.in-Write.is c.any_write.ensures
 
 pub returns-in-Left : goal.returns-in-Left
-returns-in-Left c = made (goal.at.returns-in-Left c).After-unwrap Left c.in-Left.is c.left.ensures
+returns-in-Left c = made (goal.at.returns-in-Left c).After-known Left c.in-Left.is c.left.ensures
 
 pub returns-in-Copy : goal.returns-in-Copy
-returns-in-Copy c = made (goal.at.returns-in-Copy c).After-unwrap Copy c.in-Copy.is c.copy.ensures
+returns-in-Copy c = made (goal.at.returns-in-Copy c).After-known Copy c.in-Copy.is c.copy.ensures
 
 pub returns-in-Fill : goal.returns-in-Fill
-returns-in-Fill c = made (goal.at.returns-in-Fill c).After-unwrap Fill c.in-Fill.is c.fill.ensures
+returns-in-Fill c = made (goal.at.returns-in-Fill c).After-known Fill c.in-Fill.is c.fill.ensures
 
 pub returns-in-Lock : goal.returns-in-Lock
-returns-in-Lock c = made (goal.at.returns-in-Lock c).After-unwrap Lock c.in-Lock.is c.set_lock.ensures
+returns-in-Lock c = made (goal.at.returns-in-Lock c).After-known Lock c.in-Lock.is c.set_lock.ensures
 
 pub returns-in-Unlock : goal.returns-in-Unlock
-returns-in-Unlock c = made (goal.at.returns-in-Unlock c).After-unwrap Unlock c.in-Unlock.is c.set_lock-in-Unlock.ensures
+returns-in-Unlock c = made (goal.at.returns-in-Unlock c).After-known Unlock c.in-Unlock.is c.set_lock-in-Unlock.ensures
 
 pub returns-in-Again : goal.returns-in-Again
 returns-in-Again c =
-    let there = (goal.at.returns-in-Again c).After-unwrap in
+    let there = (goal.at.returns-in-Again c).After-known in
     elim c.in-Again.is [
       | inl is ↦ made there Again is c.make_grid_at.ensures
       | inr other ↦ elim other [

@@ -1,13 +1,13 @@
 use Rattle.std.proofs.Common.{rules, ◌≡◌, ℕ, ◌+◌, ◌-◌, ◌%◌, ◌<◌, ◌≤◌, Bool, true, false, eqb, List, length, get_or, take, drop, sym, refl, ap, ◌∙◌}
 use Rattle.std.proofs.Common.{true≢false, add-zero, add-sub_of_le, arith, le-leb}
 use borrow.Author.Tests.{lt-leb}
-use Rattle.std.specs.Slice.Iter.{chunks_exact_rest, chunks_exact_size}
+use Rattle.blocks.specs.Placing.{all_free}
+use Rattle.blocks.specs.Inner.{has_entry}
 use Rattle.blocks.specs.Tables.{entry_order, damaged_by}
 use Rattle.blocks.proofs.Tables.{Good, order-taken, undamaged}
-use Rattle.blocks.proofs.FreeRuns.{part_length, part-entry}
-use Rattle.blocks.proofs.Rows.{row-good, row-undamaged, whole-rows, below_both}
-use Rattle.blocks.proofs.Chunks.{all_pass, all_left, none_left, chunk-fails, chunk-passes}
-use Rattle.blocks.proofs.Scanning.{Read, order-damaged, range_of, last_in, range_length, rows, first-rows, range-damaged, range-good}
+use Rattle.blocks.proofs.FreeRuns.{part_length, part-entry, run-of-part}
+use Rattle.blocks.proofs.Rows.{run_at, row-good, row-undamaged, whole-rows, below_both}
+use Rattle.blocks.proofs.Scanning.{Read, order-damaged, first_of, last_in, rows, first-rows, run-damaged, alike-good}
 use Rattle.blocks.proofs.scan.by_rows.Goals as goal
 use Rattle.blocks.proofs.scan.by_rows.Goals.{After-row_passes, After-slots_of-slots, Then-e-t}
 
@@ -59,15 +59,16 @@ module _ (c : After-slots_of-slots) where
     size = c.slots_of-slots.ensures;
   }
 
-  whole : length (range_of c.args.table.now c.loop-i.i c.slots_of-slots.result) % 16 ≡ 0
-  whole = rw (range_length read) (rows read (omega arith))
+-- a whole row of it is left
+row-inside : (at first n : ℕ) → first ≤ at → (at - first) % 16 ≡ 0 → n % 16 ≡ 0 → at < first + n → at + 16 ≤ first + n
+row-inside at first n low whole rows more = omega (arith, low, whole, rows, more)
 
 -- a row of it
 module _ (c : After-row_passes) where
-  alike : c.row_passes.result ≡ all_pass (λ y. eqb y (get_or c.args.table.now c.loop-i.i 0)) c.in-Some.row.now
+  alike : c.row_passes.result ≡ all_free (has_entry c.args.table.now (get_or c.args.table.now c.loop-i.i 0)) c.loop-at.at 16
   alike =
-      let sixteen : length c.in-Some.row.now ≡ 16 = c.in-Some.ensures.steps.1.1 ∙ c.loop-row.invariant.size in
-      rw sixteen (c.row_passes.ensures (λ y. eqb y (get_or c.args.table.now c.loop-i.i 0)) (λ y b l p. search rules))
+      c.row_passes.ensures (λ y. eqb y (get_or c.args.table.now c.loop-i.i 0)) (λ y b l p. search rules)
+      ∙ run-of-part (λ y. eqb y (get_or c.args.table.now c.loop-i.i 0)) c.args.table.now c.loop-at.at 16
 
 pub slice_bounds-row_damaged-end : goal.slice_bounds-row_damaged-end
 slice_bounds-row_damaged-end c = row_ends c
@@ -81,21 +82,30 @@ loop-i-preserved-then-e-t c =
       good = below_both _ c.loop-i.i _ c.loop-i.invariant.good good;
     }
 
-pub slice_bounds-chunks_exact-end : goal.slice_bounds-chunks_exact-end
-slice_bounds-chunks_exact-end c = last_in (read c)
+pub slice_bounds-row_passes-end : goal.slice_bounds-row_passes-end
+slice_bounds-row_passes-end c =
+    let r = read (goal.at.slice_bounds-row_passes-end c).After-slots_of-slots in
+    let inv = c.loop-at.invariant in
+    let end : c.loop-at.at + 16 ≤ length c.args.table.now =
+    omega (arith, last_in r, row-inside _ (first_of c.loop-i.i c.slots_of-slots.result) _ inv.low inv.rows (rows r (omega arith)) c.loop-at-test.true) in
+    end
 
-pub loop-row-init : goal.loop-row-init
-loop-row-init c =
-    let is = c.into_iter-row-iterator.ensures.into_iter_gives in
-    let chunks = c.chunks_exact-row-items.ensures in
-    all_left _ 16 (range_of c.args.table.now c.loop-i.i c.slots_of-slots.result) _ (ap chunks_exact_rest is ∙ chunks.rest)
-    (ap chunks_exact_size is ∙ chunks.size) (whole (goal.at.loop-row-init c).After-slots_of-slots)
-
-pub loop-row-preserved : goal.loop-row-preserved
-loop-row-preserved c =
-    let steps = c.in-Some.ensures.steps in
-    let same = sym (alike (goal.at.loop-row-preserved c).After-row_passes) ∙ c.if-not-row_passes.false in
-    chunk-passes c.loop-row.invariant c.next.new.self c.in-Some.row.now steps.1.0 steps.0 steps.1.1 same
+pub loop-at-preserved : goal.loop-at-preserved
+loop-at-preserved c =
+    let here = goal.at.loop-at-preserved c in
+    let r = read here.After-slots_of-slots in
+    let inv = c.loop-at.invariant in
+    let at = c.loop-at.at in
+    let inside = row-inside at (first_of c.loop-i.i c.slots_of-slots.result) _ inv.low inv.rows (rows r (omega arith)) c.loop-at-test.true in
+    let x = get_or c.args.table.now c.loop-i.i 0 in
+    let run = run_at c.args.table.now x at 16 (sym (alike here.After-row_passes) ∙ c.if-not-row_passes.false) in
+    let Same : ℕ → Type 0 = λ k. first_of c.loop-i.i c.slots_of-slots.result ≤ k → get_or c.args.table.now k 0 ≡ x in
+    record {
+      low = omega (arith, inv.low);
+      high = inside;
+      rows = omega (arith, inv.low, inv.rows);
+      alike = below_both Same at (at + 16) inv.alike (λ k lo hi _. run k lo hi);
+    }
 
 pub loop-i-preserved : goal.loop-i-preserved
 loop-i-preserved c =
@@ -103,7 +113,7 @@ loop-i-preserved c =
     record {
       in_range = last_in r;
       rows = omega (arith, first-rows r (omega arith), rows r (omega arith));
-      good = below_both _ c.loop-i.i _ c.loop-i.invariant.good (range-good r (none_left c.loop-row.invariant c.in-None.ensures.steps.1.0));
+      good = below_both _ c.loop-i.i _ c.loop-i.invariant.good (alike-good r (λ k hi lo. c.loop-at.invariant.alike k (omega arith) lo));
     }
 
 pub returns-then-row_damaged : goal.returns-then-row_damaged
@@ -119,9 +129,12 @@ returns-then-m-e c =
 
 pub returns-then-not-row_passes : goal.returns-then-not-row_passes
 returns-then-not-row_passes c =
-    let differs = sym (alike (goal.at.returns-then-not-row_passes c).After-row_passes) ∙ c.if-not-row_passes.true in
-    range-damaged (read (goal.at.returns-then-not-row_passes c).After-slots_of-slots)
-    (chunk-fails c.loop-row.invariant c.next.new.self c.in-Some.row.now c.in-Some.ensures.steps.1.0 differs)
+    let here = goal.at.returns-then-not-row_passes c in
+    let r = read here.After-slots_of-slots in
+    let inv = c.loop-at.invariant in
+    let inside = row-inside _ (first_of c.loop-i.i c.slots_of-slots.result) _ inv.low inv.rows (rows r (omega arith)) c.loop-at-test.true in
+    run-damaged r c.loop-at.at 16 inv.low inside
+    (sym (alike here.After-row_passes) ∙ c.if-not-row_passes.true)
 
 pub returns-after-loop-i : goal.returns-after-loop-i
 returns-after-loop-i c = sym (undamaged _ _ _ (λ j l. c.loop-i.invariant.good j (omega arith)))

@@ -6,4 +6,4 @@ use Rattle.takes.proofs.unchecked.index_at.Goals as goal
 
 pub returns : goal.returns
 unfolding big_endian
-returns c = rw (add-zero c.args.at) (omega (arith, c.from_be_bytes.ensures))
+returns c = rw (add-zero c.args.at) (omega (arith, c.from.ensures, c.from-2.ensures))

@@ -9,7 +9,7 @@ use Rattle.takes.specs.Writing.{write_outcome, written_of}
 use Rattle.common.proofs.Numbers.{some-number}
 use Rattle.takes.proofs.Walks.{Next, found-next, accepted-here}
 use Rattle.takes.proofs.WholeFiles.{Head, head-accepted, file-accepted}
-use Rattle.takes.proofs.Rewriting.{written-ok, number-judged, size-judged, head-fits, rewriting-start, record-fits, rewriting-turn, rewriting-end}
+use Rattle.takes.proofs.Rewriting.{number-judged, size-judged, rewriting-start, rewriting-turn, rewriting-end}
 use Rattle.takes.proofs.Rewriting.{rewrite-refused, rewrite-short}
 use Rattle.takes.proofs.writer.rewrite.Goals as goal
 use Rattle.takes.proofs.writer.rewrite.Goals.{After-next-at, In_ok-judged, In-loop-at}
@@ -36,14 +36,7 @@ module _ (c : In_ok-judged) where
 pub returns-then-out-file : goal.returns-then-out-file
 returns-then-out-file c = rewrite-short c.args.file.now c.args.out.now (good (goal.at.returns-then-out-file c).In_ok-judged) c.if-out-file.true
 
--- its head is written
-pub unwrap-requires : goal.unwrap-requires
-unwrap-requires c =
-    let e = (goal.at.unwrap-requires c).In_ok-judged in
-    written-ok c.write_head.result
-    (head-fits c.args.file.now c.args.out.now c.in_ok-judged.judged.size (written_of c.write_head.result) c.write_head.new.out (good e) (size e)
-    c.if-out-file.false c.write_head.ensures)
-
+-- once its head is written
 pub loop-at-init : goal.loop-at-init
 loop-at-init c =
     let e = (goal.at.loop-at-init c).In_ok-judged in
@@ -56,15 +49,6 @@ here c = accepted-here c.args.file.now c.loop-at.at c.loop-at.invariant.accepted
 
 pub invariant_of-record : goal.invariant_of-record
 invariant_of-record c = record { good = here (goal.at.invariant_of-record c).In-loop-at }
-
-pub unwrap-requires-in-loop-at : goal.unwrap-requires-in-loop-at
-unwrap-requires-in-loop-at c =
-    let l = c.loop-at in
-    let w = c.write_record in
-    let next = found-next c.args.file.now l.at (here (goal.at.unwrap-requires-in-loop-at c).In-loop-at) c.read.result _ c.read.ensures refl in
-    written-ok w.result
-    (record-fits c.args.file.now c.write_head.new.out l.out l.at c.read.result _ (written_of w.result) w.new.out
-    (λ i. omega (arith, c.type_inv.file i)) l.invariant next w.ensures)
 
 -- and the place after it is known
 next-is : (c : After-next-at) → Next c.args.file.now c.loop-at.at c.read.result c.next-at.result
