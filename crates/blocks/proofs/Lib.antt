@@ -8,6 +8,7 @@ pub mod Referents
 pub mod Outside
 pub mod FreeRuns
 pub mod Rows
+pub mod Parting
 pub mod Chunks
 pub mod Scanning
 pub mod Halves

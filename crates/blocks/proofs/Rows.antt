@@ -1,13 +1,13 @@
 -- Rows of slots: what a row of a block says of the block, a row as a table of its own, and parts of whole rows.
-use Rattle.std.proofs.Common.{◌≡◌, ℕ, zero, suc, ◌+◌, ◌-◌, ◌*◌, ◌/◌, ◌%◌, ◌^◌, ◌<◌, ◌≤◌, Bool, true, false, ◌&&◌, ◌||◌, eqb, leb, List, length, get_or, sym}
-use Rattle.std.proofs.Common.{refl, ap, ◌∙◌, true≢false, add-zero, mul_assoc, add-sub_of_le, arith, eq-eqb, eqb-true, leb-true}
+use Rattle.std.proofs.Common.{◌≡◌, ℕ, zero, suc, ◌+◌, ◌-◌, ◌*◌, ◌/◌, ◌%◌, ◌^◌, ◌<◌, ◌≤◌, Bool, true, false, ◌||◌, eqb, List, length, get_or, sym}
+use Rattle.std.proofs.Common.{refl, ap, ◌∙◌, true≢false, add-zero, mul_assoc, add-sub_of_le, arith, eq-eqb, eqb-true}
 use native.Mathlib.Decide.{dec_lt}
 use borrow.Author.Tests.{eqb-false}
 use Rattle.blocks.specs.Blocks.{floor}
 use Rattle.blocks.specs.Tables.{entry_order, bad, damaged_by}
 use Rattle.blocks.specs.Placing.{all_free}
-use Rattle.blocks.specs.Inner.{has_entry, single, in_row}
-use Rattle.common.proofs.Booleans.{and_left, and_right, or_right}
+use Rattle.blocks.specs.Inner.{has_entry, single}
+use Rattle.common.proofs.Booleans.{or_right}
 use Rattle.blocks.proofs.Floors.{floor-le, lt-floor, floor-end, floor-quotient, pow-split}
 use Rattle.blocks.proofs.FreeRuns.{all-at, at_all}
 use Rattle.blocks.proofs.Tables.{Good, Whole, undamaged, undamaged-whole, free-good, whole-good, good-whole}
@@ -143,24 +143,6 @@ module _ (t m : ℕ) (s p : List ℕ) (i : ℕ) (sixteen : length p ≡ 16) (h :
 
     pub row-undamaged : damaged_by t (t + 4) p ≡ false
     row-undamaged = undamaged t (t + 4) p (λ j lt. slot-good j (omega arith))
-
--- an even row is undamaged
-pub even-undamaged : (t x : ℕ) (p : List ℕ) → length p ≡ 16 → in_row t x ≡ true → all_free (has_entry p x) 0 16 ≡ true
-    → damaged_by t (t + 4) p ≡ false
-even-undamaged t x p sixteen r a = undamaged t (t + 4) p (λ j lt. go j (omega arith) (eqb x 0) refl r)
-  where
-    entry : (j : ℕ) → j < 16 → get_or p j 0 ≡ x
-    entry j lt = run_at p x 0 16 a j (omega arith) (omega arith)
-
-    go : (j : ℕ) → j < 16 → (b : Bool) → eqb x 0 ≡ b → b || (leb t (entry_order x) && leb (entry_order x) (t + 4)) ≡ true → Good t (t + 4) p j
-    go j lt true q h = free-good t (t + 4) p j (entry j lt ∙ eqb-true x 0 q)
-    go j lt false q h =
-        let e = entry_order x in
-        let low = leb-true t e (and_left _ _ h) in
-        let high = leb-true e (t + 4) (and_right (leb t e) _ h) in
-        let top = range-in-row (e - t) j (omega arith) lt in
-        let whole : Whole t (t + 4) p j x e = record { order = refl; low = low; high = high; entries = λ k lo hi. entry k (omega arith) } in
-        whole-good t (t + 4) p j x e (eqb-false x 0 q) whole j (floor-le (e - t) j) (lt-floor (e - t) j)
 
 -- a power of two of at least a row is a number of rows
 pub whole-rows : (j : ℕ) → 4 ≤ j → 2 ^ j % 16 ≡ 0

@@ -1,7 +1,7 @@
 -- Damaged and undamaged tables, slot by slot, for slots of 2 ^ t bytes: a table is damaged where one slot is bad, and a good slot's block is whole.
-use Rattle.std.proofs.Common.{◌≡◌, ℕ, zero, suc, ◌+◌, ◌-◌, ◌^◌, ◌<◌, ◌≤◌, Bool, true, false, cond, not, ◌&&◌, ◌||◌, eqb, leb, List, length, get_or, sym, refl}
-use Rattle.std.proofs.Common.{ap, ◌∙◌, subst, ⊎_elim, true≢false, le_refl, le_of_suc-le-suc, not-suc-le-zero, add-sub_of_le, eq-or-lt_of_le, arith, eq-eqb}
-use Rattle.std.proofs.Common.{ne_eqb, eqb-true, le-leb, leb-true}
+use Rattle.std.proofs.Common.{◌≡◌, ℕ, zero, suc, ◌+◌, ◌-◌, ◌%◌, ◌^◌, ◌<◌, ◌≤◌, Bool, true, false, cond, not, ◌&&◌, ◌||◌, eqb, leb, List, length, get_or}
+use Rattle.std.proofs.Common.{sym, refl, ap, ◌∙◌, subst, ⊎_elim, true≢false, le_refl, le_of_suc-le-suc, not-suc-le-zero, add-sub_of_le, eq-or-lt_of_le}
+use Rattle.std.proofs.Common.{arith, eq-eqb, ne_eqb, eqb-true, le-leb, leb-false, leb-true}
 use borrow.Author.Tests.{lt-leb, not-false}
 use Rattle.blocks.specs.Blocks.{floor}
 use Rattle.blocks.specs.Tables.{any, lock_bit, entry_order, entry_locked, entry_of, torn, bad, damaged_by}
@@ -37,6 +37,15 @@ pub record Whole (t m : ℕ) (s : List ℕ) (i x e : ℕ) : Type 0 where
   pub low : t ≤ e
   pub high : e ≤ m
   pub entries : (k : ℕ) → floor (e - t) i ≤ k → k < floor (e - t) i + 2 ^ (e - t) → get_or s k 0 ≡ x
+
+-- the order that a byte says is what is left of it by its top bit
+pub other-bits : (x : ℕ) → x < 256 → x % 128 ≡ entry_order x
+unfolding entry_order
+other-bits x l = go (leb lock_bit x) refl
+  where
+    go : (b : Bool) → leb lock_bit x ≡ b → x % 128 ≡ cond b (x - lock_bit) x
+    go true h = let low = leb-true lock_bit x h in omega arith
+    go false h = let high = leb-false lock_bit x h in omega arith
 
 -- the entry of a block says its order and its lock, the order being below the top bit
 pub order-of-entry : (e : ℕ) (l : Bool) → e < lock_bit → entry_order (entry_of e l) ≡ e

@@ -26,9 +26,19 @@ Tells post s n r =
 unfoldable pub single : ℕ → ℕ → Bool
 single t x = x == 0 || entry_order x == t
 
--- the entry x is of a free slot, or of a block of at most sixteen slots
-abbrev pub in_row : ℕ → ℕ → Bool
-in_row t x = x == 0 || (nat_le t (entry_order x) && nat_le (entry_order x) (t + 4))
+-- the entry x can stand in the table of an arena of order m: it is that of a free slot, or says an order from t to m
+abbrev pub stands : (t m x : ℕ) → Bool
+stands t m x = x == 0 || (nat_le t (entry_order x) && nat_le (entry_order x) m)
+
+-- a block with the entry x can begin, or end, before slot k
+abbrev pub can_part : (t x k : ℕ) → Bool
+can_part t x k = k % 2 ^ (entry_order x - t) == 0
+
+-- slot k parts well from the slot before it, where there is one: it has its entry, or the blocks of both can part here; and its own entry can stand there
+abbrev pub parts_well : (t m : ℕ) → List ℕ → ℕ → Bool
+parts_well t m s k =
+    (k == 0 || (slice_index s k == slice_index s (k - 1) || (can_part t (slice_index s k) k && can_part t (slice_index s (k - 1)) k)))
+    && stands t m (slice_index s k)
 
 -- ---- the search
 -- slot i is free, or, where `free` is false, taken

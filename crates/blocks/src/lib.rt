@@ -199,15 +199,18 @@ pub fn is_outside(table: &[u8], t: u32, m: u32, q: u32) -> bool
     table.len() <= i
 }
 
-// Whether the table of an arena of order m is damaged. The scan is lent a part that is the whole table: a slice that is handed on itself would be passed
-// through memory by every caller of this function.
+// Whether the table of an arena of order m is damaged. Two slots are gone through sooner than they are looked at as a row. The scan is lent a part that is
+// the whole table: a slice that is handed on itself would be passed through memory by every caller of this function.
 pub fn damaged(table: &[u8], t: u32, m: u32) -> bool
     requires { (1 ≤ t) × (t ≤ m) × (m ≤ 16) × (length table.now ≡ 2 ^ (m - t)) }
     ensures { result ≡ damaged_by t m table.now }
 {
     let n = table.len();
-    if m < t + ROW_LEVELS {
+    if m < t + 2 {
         return scan::by_slots(&table[0..n], t, m);
+    }
+    if m < t + ROW_LEVELS {
+        return scan::as_row(&table[0..n], t, m);
     }
     scan::by_rows(&table[0..n], t, m)
 }

@@ -1,16 +1,29 @@
 // The damage scan: an outer loop over slots and an inner one over the aligned range round a slot, left by label at the first difference. A table of rows is
-// passed row by row, and slot by slot only where a row's slots are not alike.
-ghost use Rattle.std.specs.Prelude.{◌≡◌, ◌+◌, ◌-◌, ◌^◌, ◌≤◌, ◌&&◌, ◌||◌, length, slice_index, ◌==◌};
+// passed row by row, and slots that are seen together to part well are passed at once: what is gone through by slots is at most two of them, or damaged.
+ghost use Rattle.std.specs.Prelude.{◌≡◌, ◌+◌, ◌-◌, ◌^◌, ◌<◌, ◌≤◌, ◌||◌, length, ◌==◌};
 ghost use Rattle.blocks.specs.Placing.{all_free};
 ghost use Rattle.blocks.specs.Tables.{damaged_by};
-ghost use Rattle.blocks.specs.Inner.{has_entry, single, in_row, Tells};
+ghost use Rattle.blocks.specs.Inner.{single, parts_well, Tells};
 
 use crate::{ROW, ROW_LEVELS, order_in, slots_of};
+use std::simd::prelude::*;
+
+// The bits of an entry that say its order: all but the lock's.
+const ORDER_BITS: u8 = 127;
+
+// By how much the order of a block can be above that of a slot, for it to begin or end before slot k of a row: 2 to that is the largest power that divides k.
+// Before the first slot any can.
+const PARTING: [u8; ROW] = [127, 0, 1, 0, 2, 0, 1, 0, 3, 0, 1, 0, 2, 0, 1, 0];
+
+// The slots of a row that begins with four slots, or with eight: the next number stands for a free one.
+const FOUR_SLOTS: [usize; ROW] = [0, 1, 2, 3, 4, 4, 4, 4, 4, 4, 4, 4, 4, 4, 4, 4];
+
+const EIGHT_SLOTS: [usize; ROW] = [0, 1, 2, 3, 4, 5, 6, 7, 8, 8, 8, 8, 8, 8, 8, 8];
 
 // Whether the table of an arena of order m is damaged. A block that is found whole is passed whole, so that each slot is looked at once, or twice where
 // it is the first of a block: how far the outer loop goes on is what the table says, so it is no `for`. The range of a block that is no single slot is
-// compared two slots at a time: a third of the time less on small blocks. Its loop is no `for` either: over `chunks_exact(2)`, over `step_by(2)` or
-// over the pairs' numbers, tables of such blocks take a tenth to a fifth longer, and one of mixed blocks misses its goal.
+// compared two slots at a time, and that loop is no `for` either: each of the two made tables faster while all of less than a row, and most rows, came here,
+// and is kept since.
 pub fn by_slots(table: &[u8], t: u32, m: u32) -> bool
     requires { (1 ≤ t) × (t ≤ m) × (m ≤ 16) × (length table.now ≡ 2 ^ (m - t)) }
     ensures { result ≡ damaged_by t m table.now }
@@ -46,7 +59,21 @@ pub fn by_slots(table: &[u8], t: u32, m: u32) -> bool
     }
 }
 
-// The same for a table of rows: a row of blocks that lie in it is a table of its own, and a larger block has rows alike.
+// The same for a table of four or eight slots: they are looked at as the first slots of a row whose others are free.
+pub fn as_row(table: &[u8], t: u32, m: u32) -> bool
+    requires { (1 ≤ t) × (t + 2 ≤ m) × (m < t + 4) × (m ≤ 16) × (length table.now ≡ 2 ^ (m - t)) }
+    ensures { result ≡ damaged_by t m table.now }
+{
+    let slots = if m == t + 2 {
+        u8x4::from_slice(table).shuffle(u8x4::splat(0), FOUR_SLOTS)
+    } else {
+        u8x8::from_slice(table).shuffle(u8x8::splat(0), EIGHT_SLOTS)
+    };
+    !all_part_well(slots, t, m) && by_slots(table, t, m)
+}
+
+// The same for a table of rows: a row of blocks that lie in it is a table of its own, and a larger block has rows alike. (With the inner loop over
+// `chunks_exact` the compiler puts the parts of the scan in another order, and a give at m = 6 misses its goal.)
 pub fn by_rows(table: &[u8], t: u32, m: u32) -> bool
     requires { (1 ≤ t) × (t + 4 ≤ m) × (m ≤ 16) × (length table.now ≡ 2 ^ (m - t)) }
     ensures { result ≡ damaged_by t m table.now }
@@ -89,29 +116,29 @@ fn row_damaged(row: &[u8], t: u32) -> bool
     requires { (1 ≤ t) × (t + 4 ≤ 16) × (length row.now ≡ 16) }
     ensures { result ≡ damaged_by t (t + 4) row.now }
 {
-    !even(row, t) && by_slots(row, t, t + ROW_LEVELS)
+    !all_part_well(u8x16::from_slice(row), t, t + ROW_LEVELS) && by_slots(row, t, t + ROW_LEVELS)
 }
 
-// Whether the slots of a row have one entry, that of free slots or of blocks that lie in it.
-fn even(row: &[u8], t: u32) -> bool
-    requires { (t ≤ 16) × (length row.now ≡ 16) }
-    ensures { result ≡ in_row t (slice_index row.now 0) && all_free (has_entry row.now (slice_index row.now 0)) 0 16 }
+// Whether each slot of a row parts well from the one before it: then the row is undamaged, since a block goes on until it can end. It looks at all slots at
+// once and has no branch, so how long it takes hangs on no entry, and hardly on where the linker puts the code. (A loop over slots that says the same is
+// compiled to some two hundred instructions, and takes four times as long.) The vectors need no more than any x86-64 has.
+fn all_part_well(x: u8x16, t: u32, m: u32) -> bool
+    requires { (t ≤ m) × (m ≤ 16) }
+    ensures { result ≡ all_free (parts_well t m x) 0 16 }
 {
-    let x = row[0];
-    in_a_row(t, x) && row_passes(row, |y| y == x)
-}
-
-// Whether the entry x is of a free slot, or of a block of at most a row.
-fn in_a_row(t: u32, x: u8) -> bool
-    requires { t ≤ 16 }
-    ensures { result ≡ in_row t x }
-{
-    x == 0 || (t..=t + ROW_LEVELS).contains(&order_in(x))
+    let order_bits = u8x16::splat(ORDER_BITS);
+    let before = x.rotate_elements_right::<1>();
+    let e = x & order_bits;
+    let lowest = u8x16::splat(t as u8);
+    let limit = lowest + u8x16::from_array(PARTING);
+    let parts = x.simd_eq(before) | (e.simd_le(limit) & (before & order_bits).simd_le(limit));
+    let stands = x.simd_eq(u8x16::splat(0))
+        | (e.simd_ge(lowest) & e.simd_le(u8x16::splat(m as u8)));
+    (parts & stands).all()
 }
 
 // Whether each slot of a row passes the test. It looks at every slot, so that the compiler compares them at once, and from the last one down, so that a
-// caller's own look at the first one does not part it from the others. (Over `row.iter().rev()` a table of mixed blocks takes twice as long, and misses its
-// goal.)
+// caller's own look at the first one does not part it from the others.
 pub fn row_passes<F: Fn(u8) -> bool>(row: &[u8], test: F) -> bool
     requires sixteen { length row.now ≡ 16 }
     requires callable { F.IsAlwaysCallable test }
