@@ -6,6 +6,7 @@ use Rattle.blocks.specs.Sets.{Pair, referent_of, locked_of, entries_from, table_
 use Rattle.blocks.specs.Pointers.{sought, signed, exact_sum}
 use Rattle.blocks.specs.Orders.{order_of, needed_order}
 use Rattle.blocks.specs.Placing.{all_free, range_start, free_range, maximal, lowest, at_order, from_order, place_in, Place, At, Nothing}
+use Rattle.blocks.proofs.Parting.{even-undamaged}
 
 damage : List ℕ → Bool
 unfolding any entry_order torn bad damaged_by floor
@@ -37,6 +38,11 @@ too-high = refl
 locked : damage (133 ∷ 133 ∷ 132 ∷ 4 ∷ []) ≡ false
 unfolding damage
 locked = refl
+
+-- a row of blocks of two slots, by the theorem on even rows
+even-row : damaged_by 4 8 (5 ∷ 5 ∷ 5 ∷ 5 ∷ 5 ∷ 5 ∷ 5 ∷ 5 ∷ 5 ∷ 5 ∷ 5 ∷ 5 ∷ 5 ∷ 5 ∷ 5 ∷ 5 ∷ []) ≡ false
+unfolding entry_order all_free
+even-row = even-undamaged 4 5 (5 ∷ 5 ∷ 5 ∷ 5 ∷ 5 ∷ 5 ∷ 5 ∷ 5 ∷ 5 ∷ 5 ∷ 5 ∷ 5 ∷ 5 ∷ 5 ∷ 5 ∷ 5 ∷ []) refl refl refl
 
 -- a block one of whose slots is not locked
 half-locked : damage (133 ∷ 5 ∷ 0 ∷ 0 ∷ []) ≡ true

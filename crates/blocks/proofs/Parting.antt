@@ -12,10 +12,11 @@ use borrow.Author.Tests.{lt-leb, eqb-false}
 use Rattle.blocks.specs.Blocks.{floor}
 use Rattle.blocks.specs.Placing.{all_free}
 use Rattle.blocks.specs.Tables.{entry_order, damaged_by}
-use Rattle.blocks.specs.Inner.{stands, can_part, parts_well}
-use Rattle.common.proofs.Booleans.{and_left, and_right, true-together}
+use Rattle.blocks.specs.Inner.{has_entry, stands, can_part, parts_well}
+use Rattle.common.proofs.Booleans.{and_left, and_right, and_both, or_right, true-together}
 use Rattle.blocks.proofs.Floors.{floor-le, lt-floor, floor-end, quotient-same, pow-split}
-use Rattle.blocks.proofs.FreeRuns.{all-at}
+use Rattle.blocks.proofs.FreeRuns.{all-at, at_all}
+use Rattle.blocks.proofs.Rows.{run_at}
 use Rattle.blocks.proofs.Tables.{Good, Whole, other-bits, undamaged, free-good, whole-good}
 
 -- the table
@@ -158,3 +159,16 @@ module _ (t m : ℕ) (x p : List ℕ) (small : t ≤ m) (size : length p ≡ 2 ^
           let inside : floor (e - t) j + 2 ^ (e - t) ≤ length p = rw size (floor-end (e - t) (m - t) j (omega arith) (rw size at l)) in
           let whole : Whole t m p j v e = record { order = refl; low = low; high = high; entries = range-has j v (e - t) inside refl refl } in
           whole-good t m p j v e (eqb-false v 0 q) whole j (floor-le (e - t) j) (lt-floor (e - t) j)
+
+-- an even row, whose slots have one entry, is undamaged: where the entry can stand in a row its slots part well
+pub even-undamaged : (t x : ℕ) (p : List ℕ) → length p ≡ 16 → stands t (t + 4) x ≡ true → all_free (has_entry p x) 0 16 ≡ true
+    → damaged_by t (t + 4) p ≡ false
+even-undamaged t x p sixteen s a =
+    let levels : t + 4 - t ≡ 4 = omega arith in
+    well-undamaged t (t + 4) p p (omega arith) (rw levels sixteen) (omega arith) (λ j l. refl) (at_all _ 0 16 (λ k l. rw zero-add (part k l)))
+  where
+    part : (k : ℕ) → k < 16 → parts_well t (t + 4) p k ≡ true
+    part k l =
+        let here : get_or p k 0 ≡ x = run_at p x 0 16 a k (omega arith) l in
+        let before : get_or p (k - 1) 0 ≡ x = run_at p x 0 16 a (k - 1) (omega arith) (omega arith) in
+        and_both (or_right (eqb k 0) (rw (here, before, eq-eqb x x refl))) (rw here s)
